@@ -1,4 +1,4 @@
--- Boxes: enough for all that wait, as waiters and clients come and go.
+-- There are enough boxes for all waiters, as waiters and clients come and go.
 use Rattle.std.proofs.Common.{◌≡◌, ℕ, ◌==◌, ◌+◌, ◌≤◌, ◌<◌, min, Bool, true, false, cond}
 use Rattle.std.proofs.Common.{not, List, [], ◌∷◌, ◌++◌, length}
 use Rattle.std.proofs.Common.{filter, Option, Some, None, is_some, nat_eq}
@@ -22,7 +22,7 @@ use Rattle.pt_chains.proofs.StepLemmas.{some-if}
 use Rattle.pt_chains.proofs.BusyLemmas.{busy-few, busy-more, busy-fewer, busy-made, empty-listed}
 use Rattle.pt_chains.proofs.BusyLemmas.{zero-listed}
 
--- who waits in a queue with no box
+-- a queue with no box has no waiter
 pub none-without : HasNone no_queue
 none-without =
     record {
@@ -57,7 +57,7 @@ pub some-mapped : {X Y : Type 0} (f : X → Y) (o : Option X)
 some-mapped f None = refl
 some-mapped f (Some x) = refl
 
--- the last of a list
+-- what is true of each element of a list is true of its last
 pub each-last : {X : Type 0} (P : X → Type 0) (xs ys : List X) (o : Option X) (x : X)
     → ys ≡ xs ++ option_to_list o → o ≡ Some x → Each P ys → P x
 each-last {X} P xs ys o x is some a =
@@ -70,7 +70,7 @@ each-last {X} P xs ys o x is some a =
 module _ (homes : List (ℕ × ℕ)) (nodes : List (Option Node)) (queues : List (ℕ × Queue))
     (es : List (ℕ × Waiter)) (spares room boxes : ℕ) (a : AreChains homes nodes queues es)
     (b : AreBoxes (length homes) (length (numbers queues)) es spares room boxes) where
-  -- a client that waits nowhere finds a box for a queue that has none
+  -- for a client that waits nowhere, there is a spare box if its queue is empty
   pub spare-there : (c n o : ℕ) → home_of homes c ≡ Some n → has_waiter c es ≡ false
       → is_listed o (numbers queues) ≡ true
       → IfSome (lookup (nat_eq o) queues) (λ q. q.len ≡ 0 → 0 < spares)

@@ -15,7 +15,7 @@ use Rattle.pt_chains.specs.Boxes.{busy}
 use Rattle.pt_chains.proofs.ChainLemmas.{queue-none}
 use Rattle.pt_chains.proofs.InsertLemmas.{no-more}
 
--- no more than waiters
+-- no more queues than waiters
 pub busy-few : (es : List (ℕ × Waiter)) → busy es ≤ length es
 busy-few [] = omega arith
 busy-few (e ∷ es) = go (is_listed e.0 (numbers es)) (busy-few es)
@@ -33,7 +33,7 @@ eq_swap m n = go (m == n) (n == m) refl refl
     go false true p q = absurd (grind (arith, nat_tests))
     go false false p q = refl
 
--- where one more waiter is listed
+-- if one more waiter is listed
 step : (t l m a : Bool) (more n : ℕ) → a ≡ (l || t) → (t ≡ true → l ≡ m)
     → more ≡ cond m n (n + 1)
     → cond a more (more + 1) ≡ cond (t || m) (cond l n (n + 1)) (cond l n (n + 1) + 1)
@@ -259,7 +259,7 @@ unique-distinct (e ∷ es) = go (is_listed e.0 (numbers es)) refl (unique-distin
     go true p ih = ih
     go false p ih = (listed-distinct e.0 es ∙ p, ih)
 
--- with one more that has none yet, they are no more than there are queues
+-- with one more queue that has no waiter yet, they are no more than all queues
 pub busy-made : (o : ℕ) (os : List ℕ) (es : List (ℕ × Waiter)) → is_listed o os ≡ true
     → Each (λ e. is_listed e.0 os ≡ true) es → is_listed o (numbers es) ≡ false
     → busy es + 1 ≤ length os

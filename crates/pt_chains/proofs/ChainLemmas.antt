@@ -39,7 +39,7 @@ any-none p (x ∷ xs) h = go (p x) (any-none p xs) h
     go true ih h = cc
     go false ih h = ih h
 
--- what a client's node tells
+-- the entry that is found for a client is one of its own
 pub entry-there : (c : ℕ) (es : List (ℕ × Waiter)) (o : Option (ℕ × Waiter))
     → o ≡ first_entry (filter (λ e. e.1.client == c) es)
     → IfSome o (λ e. In e es × (e.1.client ≡ c))
@@ -88,7 +88,7 @@ is-listed {X} es c h = go (lookup (nat_eq c) es) refl
     go (Some x) e = (x, e)
     go None e = absurd (false≢true (sym (ap is_some e) ∙ (sym (listed-lookup c es) ∙ h)))
 
--- a queue that isn't made has no entry
+-- a queue that does not exist has no entry
 pub unmade-none : (o : ℕ) (os : List ℕ) (es : List (ℕ × Waiter))
     → Each (λ e. is_listed e.0 os ≡ true) es → is_listed o os ≡ false
     → Each (λ e. (e.0 == o) ≡ false) es
@@ -106,7 +106,7 @@ pub queue-none : (o : ℕ) (es : List (ℕ × Waiter)) → Each (λ e. (e.0 == o
 queue-none o [] a = refl
 queue-none o (e ∷ es) a = rw a.0 (queue-none o es a.1)
 
--- which waiter a listed node is of
+-- the waiter to which a listed node belongs
 pub chain-member : (f : ℕ → ℕ) (p : ℕ × Waiter → Bool) (m : ℕ) (es : List (ℕ × Waiter))
     → is_listed m (nodes_of f (filter p es)) ≡ true
     → (d : ℕ × Waiter) × In d es × (p d ≡ true) × (f d.1.client ≡ m)
@@ -138,7 +138,7 @@ module _ (homes : List (ℕ × ℕ)) (nodes : List (Option Node)) (queues : List
           let out = listed-lookup o queues ∙ ap is_some e in
           sym (ap length (queue-none o es (unmade-none o (numbers queues) es a.stand.made out)))
 
-  -- who stands has a node
+  -- a client that waits has a node
   pub home-there : (d : ℕ × Waiter) → In d es
       → (n : ℕ) × (home_of homes d.1.client ≡ Some n)
   home-there d i = go (home_of homes d.1.client) refl
@@ -165,7 +165,7 @@ module _ (homes : List (ℕ × ℕ)) (nodes : List (Option Node)) (queues : List
       a.homed.apart d.1.client e.1.client (index_of homes d.1.client) (index-there d i)
       (index-there e j ∙ ap (λ n. Some n) (sym h))
 
-  -- a node of another client
+  -- the node of a client that does not wait is not that of a waiter
   pub index-fresh : (c n : ℕ) → home_of homes c ≡ Some n → has_waiter c es ≡ false
       → (d : ℕ × Waiter) → In d es → (n == index_of homes d.1.client) ≡ false
   index-fresh c n at none d i = go (n == index_of homes d.1.client) refl
@@ -193,7 +193,7 @@ nodes-agree f g p (e ∷ es) h = go (p e) (nodes-agree f g p es (λ d i. h d (in
         ∙ ap (λ ns. f e.1.client ∷ ns) ih
     go false ih = ih
 
--- the same queues and waiters, where those that stand keep their nodes
+-- the same queues and waiters, if each waiter keeps its node
 module _ (homes homes' : List (ℕ × ℕ)) (nodes nodes' : List (Option Node))
     (queues : List (ℕ × Queue)) (es : List (ℕ × Waiter))
     (kept : (d : ℕ × Waiter) → In d es

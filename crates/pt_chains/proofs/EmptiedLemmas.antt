@@ -22,7 +22,7 @@ use Rattle.pt_chains.proofs.StepLemmas.{step-take}
 use Rattle.pt_chains.proofs.BusyLemmas.{listed-none, zero-listed, more-listed}
 use Rattle.pt_chains.proofs.BoxLemmas.{none-without}
 
--- queues of which one has this value
+-- the queues, with this value for one of them
 abbrev with_queue : ℕ → Queue → List (ℕ × Queue) → List (ℕ × Queue)
 with_queue o q [] = []
 with_queue o q (e ∷ es) = (e.0, cond (e.0 == o) q e.1) ∷ with_queue o q es
@@ -80,7 +80,7 @@ module _ (homes : List (ℕ × ℕ)) (nodes nodes' : List (Option Node))
   abbrev left : List (ℕ × Waiter)
   left = filter (λ e. not (e.1.client == w.client)) es
 
-  -- what is true of waiters and queues then, and of the box that is given back
+  -- what is true of the waiters and queues that are left, and of the box that is given back
   pub record IsLeft (box : Option Queue) : Type 0 where
     pub chains : AreChains homes nodes' queues' left
     pub none : IfSome box HasNone
@@ -92,7 +92,7 @@ module _ (homes : List (ℕ × ℕ)) (nodes nodes' : List (Option Node))
   new : (q : Queue) × (lookup (nat_eq o) queues' ≡ Some q)
   new = is-listed queues' o (ap (is_listed o) same ∙ made)
 
-  -- one waits there still
+  -- a waiter is still there
   still : IsEmptied w.writer p before next old.0 new.0 None → IsLeft None
   still done =
       record { chains = chains; none = tt; last = sym (ap not some) }
@@ -112,7 +112,7 @@ module _ (homes : List (ℕ × ℕ)) (nodes nodes' : List (Option Node))
           more-listed o left
           (λ z. done.left (chains.len o new.0 new.1 ∙ z))
 
-  -- no one waits there any more
+  -- no waiter is left there
   emptied : (q : Queue) → IsEmptied w.writer p before next old.0 new.0 (Some q) → IsLeft (Some q)
   emptied q done =
       record {

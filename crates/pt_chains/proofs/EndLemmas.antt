@@ -1,4 +1,4 @@
--- A chain, its ends and its count, as a node goes after the last or is taken out.
+-- A chain, its ends and its count, as a node is added after the last or taken out.
 use Rattle.std.proofs.Common.{◌≡◌, ◌≢◌, ℕ, ◌==◌, ◌+◌, ◌-◌, Bool, true, false, cond, ◌||◌, not, List}
 use Rattle.std.proofs.Common.{[], ◌∷◌, ◌++◌, length, Option, Some, None, is_some, slice_index_or}
 use Rattle.std.proofs.Common.{refl, sym, ap, ◌∙◌, arith}
@@ -48,7 +48,7 @@ length_but n (m ∷ ms) i u = go (m == n) refl i (λ h. length_but n ms h u.1)
         omega (arith, h)
     go false e i ih = let h = ih i in let k = some ms i in omega (arith, h, k)
 
--- one more stands after the last
+-- a node is added after the last
 pub chain-append : (nx bf nx' bf' : ℕ → Option ℕ) (side side' : Side) (p n : ℕ) (ns : List ℕ)
     → slice_index side'.counts p ≡ slice_index side.counts p + 1
     → slice_index_or side'.tails p None ≡ Some n
@@ -72,7 +72,7 @@ chain-append nx bf nx' bf' side side' p n ns hc ht hh hn hb out u a =
           (slice_index_or side.tails p None) None ns hn hb out u a.tail a.links;
     }
 
--- one is taken out, wherever it stands
+-- a node is taken out, wherever it is
 pub chain-removed : (nx bf nx' bf' : ℕ → Option ℕ) (side side' : Side) (p n : ℕ) (ns : List ℕ)
     → slice_index side'.counts p ≡ slice_index side.counts p - 1
     → slice_index_or side'.tails p None ≡ cond (not (is_some (nx n))) (bf n)

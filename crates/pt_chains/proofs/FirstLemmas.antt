@@ -84,13 +84,13 @@ some-entry f (Some n) u is = ap is_some is
 
 module _ (homes : List (ℕ × ℕ)) (nodes : List (Option Node)) (queues : List (ℕ × Queue))
     (es : List (ℕ × Waiter)) (a : AreChains homes nodes queues es) (o : ℕ) where
-  -- a queue that isn't there is empty
+  -- a queue that does not exist is empty
   pub absent-empty : lookup (nat_eq o) queues ≡ None → queue_of o es ≡ []
   absent-empty h =
       queue-none o es (unmade-none o (numbers queues) es a.stand.made
       (listed-lookup o queues ∙ ap is_some h))
 
-  -- what a node of one that stands has
+  -- the node of a waiter has the waiter's entry
   own-entry : (u : ℕ × Waiter) → In u es
       → entry_in nodes (index_of homes u.1.client) ≡ Some u
   own-entry u i =
@@ -114,7 +114,7 @@ module _ (homes : List (ℕ × ℕ)) (nodes : List (Option Node)) (queues : List
           e ∙ ap (λ y. Some y) (one_entry x u es a.stand.once r.0 i r.1)
 
   module _ (q : Queue) (at : lookup (nat_eq o) queues ≡ Some q) where
-    -- the chain of one that stands here isn't empty
+    -- the chain of a waiter of this queue is not empty
     some-there : (e : ℕ × Waiter) → In e es → (e.0 == o) ≡ true
         → (p : ℕ) × (p < most_priority) × (e.1.prio ≡ p + 1)
         × (slice_index (side_of e.1.writer q).counts p ≢ 0)
@@ -192,7 +192,7 @@ module _ (homes : List (ℕ × ℕ)) (nodes : List (Option Node)) (queues : List
             r.3 (ap (λ j. slice_index (side_of e.1.writer q).counts j) same
             ∙ c.beside e.1.writer less)
 
-    -- the first of a queue that is there
+    -- the first of a queue that exists
     pub first-there : (head : Option ℕ) → IsFirst q head
         → option_map (λ e. e.1) (option_and_then (entry_in nodes) head) ≡ head_of (queue_of o es)
     first-there head (inl f) =
@@ -237,7 +237,7 @@ module _ (homes : List (ℕ × ℕ)) (nodes : List (Option Node)) (queues : List
         → (slice_index (side_of e.1.writer q).counts j ≢ 0) → slice_index q.writers.counts j ≢ 0
     writer-chain e j t h z = h (ap (λ k. slice_index (side_of k q).counts j) t ∙ z)
 
-    -- and its first writer
+    -- the first writer of a queue that exists
     pub writer-there : (head : Option ℕ) → IsFirstWriter q head
         → option_map (λ e. e.1) (option_and_then (entry_in nodes) head)
         ≡ first_writer_of (queue_of o es)
@@ -280,7 +280,7 @@ module _ (homes : List (ℕ × ℕ)) (nodes : List (Option Node)) (queues : List
         ap (λ x. option_map (λ (e : ℕ × Waiter). e.1) (option_and_then (entry_in nodes) x)) f.1
         ∙ sym (ap head_of empty)
 
-    -- whether a writer is there that holds a reader back
+    -- whether a writer there holds a reader back
     pub back-there : (b : Bool) (p prio : ℕ) → p + 1 ≡ prio → IsTrue b ↔ HasWriterFrom q p
         → b ≡ list_any (holds_back prio) (queue_of o es)
     back-there true p prio is h =
@@ -330,7 +330,7 @@ no-waiter homes nodes queues es a o q there none k p within =
     passed [] h = refl
     passed (w ∷ ws) h = absurd (omega (arith, h))
 
--- the same where the queue may not be there
+-- the same if the queue may not exist
 module _ (homes : List (ℕ × ℕ)) (nodes : List (Option Node)) (queues : List (ℕ × Queue))
     (es : List (ℕ × Waiter)) (a : AreChains homes nodes queues es) (o : ℕ) where
   pub first-told : (head : Option ℕ) → (lookup (nat_eq o) queues ≡ None → head ≡ None)

@@ -19,7 +19,7 @@ use Rattle.pt_chains.proofs.StepLemmas.{place-entry}
 use Rattle.pt_waitq.proofs.MemberLemmas.{head-in}
 use Rattle.pt_chains.proofs.FirstLemmas.{first-told}
 
--- what a node says that is the first of a queue
+-- the content of the node of the first of a queue
 pub record IsHead (homes : List (ℕ × ℕ)) (nodes : List (Option Node)) (es : List (ℕ × Waiter))
     (o n : ℕ) (w : Waiter) (next before : Option ℕ) : Type 0 where
   pub node : node_in nodes n

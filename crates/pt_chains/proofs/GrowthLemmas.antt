@@ -1,4 +1,4 @@
--- Growth: what stands as room is made for one more client or queue.
+-- What stays true as room is made for one more client or queue.
 use Rattle.std.proofs.Common.{◌≡◌, ℕ, ◌==◌, ◌+◌, ◌≤◌, min, Bool, true, false, ◌||◌, List, [], ◌∷◌}
 use Rattle.std.proofs.Common.{◌++◌, ◌<◌, Option, Some, None, is_some, cond, refl, sym, ap, ◌∙◌}
 use Rattle.std.proofs.Common.{subst, arith, length}
@@ -37,7 +37,7 @@ pub still-listed : (homes hs : List (ℕ × ℕ)) (d : ℕ) → home_of hs d ≡
 still-listed homes hs d same =
     listed-lookup d hs ∙ (ap is_some same ∙ sym (listed-lookup d homes))
 
--- no box more, and no less room
+-- no more boxes, and no less room
 pub boxes-same : (clients clients' objects : ℕ) (es : List (ℕ × Waiter))
     (spares spares' room room' boxes : ℕ) → clients' ≡ clients → spares' ≡ spares → room ≤ room'
     → AreBoxes clients objects es spares room boxes
@@ -55,7 +55,7 @@ boxes-same clients clients' objects es spares spares' room room' boxes fewer sam
 pub spares-few : (boxes waiting spares : ℕ) → boxes ≡ waiting + spares → spares ≤ boxes
 spares-few boxes waiting spares e = omega arith
 
--- one box more is enough for one client more, or for one queue more
+-- one more box is enough for one more client, or for one more queue
 pub few-clients : (clients objects boxes homes queues wanted : ℕ) → min clients objects ≤ boxes
     → homes ≡ clients → queues ≡ objects → wanted ≡ min queues (homes + 1) → wanted ≤ boxes + 1
 few-clients clients objects boxes homes queues wanted e h q w = omega arith
@@ -77,7 +77,7 @@ enough-objects clients objects objects' boxes homes queues wanted e h q w more =
 pub at-most : (n : ℕ) → n ≤ n
 at-most n = omega arith
 
--- one client more is admitted
+-- one more client is admitted
 pub one-admitted : (homes hs : List (ℕ × ℕ)) (es : List (ℕ × Waiter)) (k n d : ℕ)
     → home_of hs d ≡ cond (k == d) (Some n) (home_of homes d)
     → (is_listed d (numbers hs) || has_waiter d es)
@@ -92,7 +92,7 @@ one-admitted homes hs es k n d e =
     go true f = refl
     go false f = refl
 
--- one more at the end
+-- one more element at the end
 pub each-more : {X : Type 0} (P : X → Type 0) (xs ys zs : List X) (x : X) → ys ≡ xs
     → zs ≡ ys ++ x ∷ [] → Each P xs → P x → Each P zs
 each-more {X} P xs ys zs x same e a b =
@@ -102,7 +102,7 @@ each-more {X} P xs ys zs x same e a b =
     go [] h = (b, tt)
     go (y ∷ l) h = (h.0, go l h.1)
 
--- what is said of one outcome
+-- what is said of an outcome holds if the result has the other one
 pub if-err : {X E : Type 0} (r : Result X E) (P : X → Type 0) → IsErr r → IfOk r P
 if-err (Ok x) P h = absurd (false≢true h)
 if-err (Err e) P h = tt

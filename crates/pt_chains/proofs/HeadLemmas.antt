@@ -13,7 +13,7 @@ use Rattle.pt_waitq.specs.QueueLemmas.{queue_of-in-order}
 use Rattle.pt_chains.specs.Chains.{is_kind, chain_of}
 use Rattle.pt_chains.proofs.SortedLemmas.{kind-of}
 
--- a waiter of a chain that goes ahead of this one
+-- whether a waiter belongs to a chain that goes ahead of this one
 abbrev pub goes_ahead : Bool → ℕ → Waiter → Bool
 goes_ahead k p v = nat_lt p v.prio || ((v.prio == p) && nat_lt (rank v.writer) (rank k))
 
@@ -25,7 +25,7 @@ head-in : (vs : List Waiter) (u : Waiter) → head_of vs ≡ Some u → In u vs
 head-in [] u h = cc
 head-in (v ∷ vs) u h = inl cc
 
--- where no chain ahead of this one has a waiter, the queue's head is its head
+-- if no chain ahead of this one has a waiter, its head is the queue's head
 pub top-head : (k : Bool) (p : ℕ) (vs : List Waiter) (u : Waiter) → IsInKeyOrder vs
     → Each (λ v. goes_ahead k p v ≡ false) vs → head_of (filter (is_kind k p) vs) ≡ Some u
     → head_of vs ≡ Some u

@@ -1,4 +1,4 @@
--- The highest chain that isn't empty, as one of the counts changes.
+-- The highest chain that is not empty, as one of the counts changes.
 use Rattle.std.proofs.Common.{◌≡◌, ◌≢◌, ℕ, ◌+◌, ◌-◌, ◌==◌, nat_le, ◌<◌, ◌≤◌, max, Bool, true, false}
 use Rattle.std.proofs.Common.{cond, not, List, Option, Some, None, refl, sym, ap, ◌∙◌, subst, arith}
 use Rattle.std.proofs.Common.{eq-eqb, length, take, length-take, get_or-take}
@@ -83,7 +83,7 @@ module _ (old new : List ℕ) (p n : ℕ) (within : p < most_priority)
   lowered-bound (Some h) le a =
       (a.0, λ i lt above. stays-zero le i lt (a.2 i lt above))
 
-  -- a chain that is made shorter and isn't empty then
+  -- a chain that is made shorter and is not empty after that
   pub stays-highest : (h : Option ℕ) → n ≤ slice_index old p → slice_index new p ≢ 0
       → IsHighestChain old h → IsHighestChain new h
   stays-highest None le some a = λ i lt. stays-zero le i lt (a i lt)
@@ -175,7 +175,7 @@ module _ (k : Bool) (old new : Queue) (p : ℕ) (w r : Option ℕ) (within : p <
 pub some-wait : (was now : Queue) → was ≡ now → 1 ≤ now.len → was.len ≢ 0
 some-wait was now same some z = let len = ap (λ (q : Queue). q.len) same in omega (arith, len)
 
--- the whole queue, once one is taken out of one of its sides
+-- the whole queue, after a waiter is taken out of one of its sides
 pub taken-whole : (k : Bool) (p : ℕ) (before next : Option ℕ) (old now new : Queue) → old ≡ now
     → new.len + 1 ≡ old.len → side_of (not k) new ≡ side_of (not k) old
     → IsStepped (side_of k old).counts (side_of k new).counts p
@@ -202,12 +202,12 @@ taken-whole k p before next old now new same len other counts tails heads =
 pub some-left : (n : ℕ) → n ≢ 0 → false ≡ (n == 0)
 some-left n some = grind (arith, nat_tests, some)
 
--- no one waits
+-- the queue has no waiter
 pub none-highest : (q : Queue) → HasNone q
     → IsHighestChain q.writers.counts None × IsHighestChain q.readers.counts None
 none-highest q h = (λ p lt. h.counts true p lt, λ p lt. h.counts false p lt)
 
--- what is highest among the counts below one that is zero
+-- the highest among the counts below one that is zero
 module _ (counts : List ℕ) (i : ℕ) (all : length counts ≡ most_priority)
     (bound : (i < most_priority) × NoneAbove counts i) (zero : slice_index counts i ≡ 0) where
   shorter : length (take i counts) ≡ i

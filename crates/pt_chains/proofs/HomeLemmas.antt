@@ -59,7 +59,7 @@ pub length-more : {X : Type 0} (es : List X) (e : X) → length (es ++ e ∷ [])
 length-more [] e = refl
 length-more (x ∷ es) e = let h = length-more es e in omega (arith, h)
 
--- a client comes, whose node stands nowhere
+-- a client comes, whose node is in no chain
 module _ (homes homes' : List (ℕ × ℕ)) (nodes nodes' : List (Option Node))
     (queues : List (ℕ × Queue)) (es : List (ℕ × Waiter)) (c n : ℕ)
     (a : AreChains homes nodes queues es) (none : home_of homes c ≡ None)
@@ -157,7 +157,7 @@ module _ (homes homes' : List (ℕ × ℕ)) (nodes nodes' : List (Option Node))
       })
       a
 
--- a client goes, which stands nowhere
+-- a client goes that waits nowhere
 module _ (homes homes' : List (ℕ × ℕ)) (nodes nodes' : List (Option Node))
     (queues : List (ℕ × Queue)) (es : List (ℕ × Waiter)) (c : ℕ)
     (a : AreChains homes nodes queues es)
@@ -274,7 +274,7 @@ module _ (homes homes' : List (ℕ × ℕ)) (nodes nodes' : List (Option Node))
           ap (λ n. has_waiter n es) (sym same) ∙ none
       go false e = ap (λ b. b || has_waiter d es) (sym (listed-lookup d homes))
 
--- a client comes, where room was made before
+-- a client comes, after room was made for it
 pub chains-joined : (homes room homes' : List (ℕ × ℕ))
     (nodes roomy nodes' : List (Option Node)) (queues : List (ℕ × Queue)) (es : List (ℕ × Waiter))
     (c n : ℕ) → AreChains homes nodes queues es → home_of homes c ≡ None

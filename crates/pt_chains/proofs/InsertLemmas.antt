@@ -34,7 +34,7 @@ filter-append p (x ∷ es) e = go (p x) (p e) refl (filter-append p es e)
         ∙ sym (ap (λ b. cond b (x ∷ (filter p es ++ e ∷ [])) (x ∷ filter p es)) q)
     go false b q ih = ih
 
--- the node of who is put in has the entry, and the others keep theirs
+-- the node of the client that is put in has the entry, and the other nodes keep theirs
 pub own-inserted : (old new : ℕ → Option (ℕ × Waiter)) (o : ℕ) (w : Waiter) (es : List (ℕ × Waiter))
     → ((c : ℕ) → new c ≡ cond (w.client == c) (Some (o, w)) (old c))
     → ((c : ℕ) → old c ≡ first_entry (filter (λ e. e.1.client == c) es))
@@ -56,7 +56,7 @@ own-inserted old new o w es h own none c =
         sym (ap (λ xs. first_entry (xs ++ (o, w) ∷ [])) gone)
     go false q = own c
 
--- each node stands in a chain once
+-- no node is in a chain twice
 pub unique-chain : (f : ℕ → ℕ) (p : ℕ × Waiter → Bool) (es : List (ℕ × Waiter)) → IsOnce es
     → ((d e : ℕ × Waiter) → In d es → In e es → f d.1.client ≡ f e.1.client
     → d.1.client ≡ e.1.client)
@@ -95,7 +95,7 @@ still m n (k ∷ ks) a h = go (k == n) (k == m) refl refl h (still m n ks a)
     go false true p q h ih = ap (λ b. b || is_listed m rest) q
     go false false p q h ih = ap (λ b. b || is_listed m rest) q ∙ ih h
 
--- different numbers, each one of these, are no more than these
+-- a list without repetitions is no longer than one that has all its numbers
 pub no-more : (ns ks : List ℕ) → Unique ns
     → ((n : ℕ) → is_listed n ns ≡ true → is_listed n ks ≡ true) → length ns ≤ length ks
 no-more [] ks u f = omega arith
@@ -141,7 +141,7 @@ length-nodes : (f : ℕ → ℕ) (es : List (ℕ × Waiter)) → length (nodes_o
 length-nodes f [] = refl
 length-nodes f (e ∷ es) = let h = length-nodes f es in omega (arith, h)
 
--- those that stand, with one more client that has a node, are no more than the nodes
+-- there are at least as many nodes as waiters and one more client that has a node
 module _ (homes : List (ℕ × ℕ)) (nodes : List (Option Node)) (queues : List (ℕ × Queue))
     (es : List (ℕ × Waiter)) (c n : ℕ) (a : AreChains homes nodes queues es)
     (at : home_of homes c ≡ Some n) (none : has_waiter c es ≡ false) where
@@ -184,7 +184,7 @@ module _ (homes : List (ℕ × ℕ)) (nodes : List (Option Node)) (queues : List
       let few = room in
       omega (arith, few, most)
 
--- a chain that the waiter doesn't belong to, and its own
+-- a chain to which the waiter does not belong, and its own
 pub chain-other : (o' : ℕ) (k : Bool) (p : ℕ) (es : List (ℕ × Waiter)) (e : ℕ × Waiter)
     → in_chain o' k p e ≡ false → chain_of o' k p (es ++ e ∷ []) ≡ chain_of o' k p es
 chain-other o' k p es e h =

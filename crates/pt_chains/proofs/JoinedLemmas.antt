@@ -1,4 +1,4 @@
--- What is done to a queue's box, once all that wait are in it.
+-- What is done to a queue's box after all its waiters are in it.
 use Rattle.std.proofs.Common.{◌≡◌, ◌≢◌, ℕ, ◌+◌, ◌<◌, ◌==◌, Bool, true, false, cond, List, []}
 use Rattle.std.proofs.Common.{◌∷◌, ◌++◌, length, Option, Some, None, refl, sym, ap, ◌∙◌, subst}
 use Rattle.std.proofs.Common.{arith, slice_index}
@@ -14,7 +14,7 @@ use Rattle.pt_chains.specs.Boxes.{no_queue, IsSame, IsEmptied}
 use Rattle.pt_chains.proofs.BoxLemmas.{each-last}
 use Rattle.pt_chains.proofs.LoneLemmas.{taken-same}
 
--- a box that is taken from among empty ones
+-- a box that is taken from among empty ones is empty
 pub popped-empty : {X : Type 0} (f : X → Queue) (xs ys : List X) (o : Option X)
     → ys ≡ xs ++ option_to_list o → IsSome o → Each (λ x. HasNone (f x)) ys
     → MatchOption (option_map f o) ⊥ HasNone
@@ -65,7 +65,7 @@ module _ (k : Bool) (p : ℕ) (old box : Queue) (within : p < most_priority)
   pub same-count : slice_index (side_of k old).counts p ≡ slice_index (side_of k box).counts p
   same-count = sym (same.chains k p within).count
 
-  -- the last one is taken out, or one of more
+  -- the last waiter is taken out, or one of several
   pub emptied-joined : (before next : Option ℕ) (q : Queue) → IsTaken k p before next box q
       → true ≡ (q.len == 0) → IsEmptied k p before next old no_queue (Some q)
   emptied-joined before next q taken last =

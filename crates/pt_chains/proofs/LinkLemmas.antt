@@ -1,4 +1,4 @@
--- What is stored of a chain's links as a node is put after the last one, or taken out.
+-- What is stored of a chain's links as a node is put after the last one or taken out.
 use Rattle.std.proofs.Common.{◌≡◌, ℕ, ◌==◌, Bool, true, false, cond, ◌||◌, not, List, [], ◌∷◌, ◌++◌}
 use Rattle.std.proofs.Common.{filter, Option, Some, None, is_some, refl, sym, ap, ◌∙◌, subst, arith}
 use Rattle.std.proofs.lemmas.Bool.Decides.{nat_tests}
@@ -17,7 +17,7 @@ eq_true m n e = grind (arith, nat_tests)
 pub eq_turned : (m n : ℕ) → (m == n) ≡ false → (n == m) ≡ false
 eq_turned m n e = grind (arith, nat_tests)
 
--- who is listed isn't one that is not
+-- a number that is listed differs from one that is not
 pub listed_apart : (m n : ℕ) (ns : List ℕ) → is_listed m ns ≡ true → is_listed n ns ≡ false
     → (m == n) ≡ false
 listed_apart m n ns h k = go (m == n) refl
@@ -94,7 +94,7 @@ module _ (nx bf : ℕ → Option ℕ) where
           ∙ first_apart m ks (or_parts (k == m) (is_listed m ks) o).1
       go false e i ih = ih i
 
-  -- the one ahead of one that isn't the first
+  -- the node ahead of one that is not the first is in the chain
   pub before_apart : (m n k : ℕ) (ns : List ℕ) → Links nx bf (Some k) ns
       → is_listed n ns ≡ true → is_listed m (k ∷ ns) ≡ false → is_at m (bf n) ≡ false
   before_apart m n k [] l i o = absurd (false≢true i)
@@ -131,7 +131,7 @@ but n ns = filter (λ m. not (m == n)) ns
 module _ (nx bf nx' bf' : ℕ → Option ℕ) (n : ℕ)
     (hn : (c : ℕ) → nx' c ≡ cond (n == c) None (cond (is_at c (bf n)) (nx n) (nx c)))
     (hb : (c : ℕ) → bf' c ≡ cond (n == c) None (cond (is_at c (nx n)) (bf n) (bf c))) where
-  -- a node that isn't taken out and isn't next to it keeps its links
+  -- a node that is neither taken out nor next to the one that is keeps its links
   kept_next : (c : ℕ) → (n == c) ≡ false → is_at c (bf n) ≡ false → nx' c ≡ nx c
   kept_next c e f = hn c ∙ (ap (λ t. cond t None (cond (is_at c (bf n)) (nx n) (nx c))) e
       ∙ ap (λ t. cond t (nx n) (nx c)) f)
@@ -148,7 +148,7 @@ module _ (nx bf nx' bf' : ℕ → Option ℕ) (n : ℕ)
   now_before c e f = hb c ∙ (ap (λ t. cond t None (cond (is_at c (nx n)) (bf n) (bf c))) e
       ∙ ap (λ t. cond t (bf n) (bf c)) f)
 
-  -- what stood after it is led to from the one ahead of it
+  -- the nodes after it are linked to the one ahead of it
   rest_linked : (b : Option ℕ) (ms : List ℕ) → ((c : ℕ) → is_listed c ms ≡ true → is_at c b ≡ false)
       → bf n ≡ b → nx n ≡ first_in ms → is_listed n ms ≡ false → Unique ms
       → Links nx bf (Some n) ms → Links nx' bf' b ms

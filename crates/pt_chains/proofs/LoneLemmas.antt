@@ -1,4 +1,5 @@
--- A queue of one chain, which isn't put into the queue's box until one of another chain comes.
+-- A queue with one chain, which is not put into the queue's box until a waiter of another chain
+-- comes.
 use Rattle.std.proofs.Common.{◌≡◌, ◌≢◌, ℕ, ◌==◌, ◌+◌, ◌-◌, ◌≤◌, ◌<◌, Bool, true, false, cond, ◌&&◌}
 use Rattle.std.proofs.Common.{not, Option, Some, None, is_some, slice_index_or, inl, inr}
 use Rattle.std.proofs.Common.{refl, sym, ap, ◌∙◌, subst, arith, replicate, set}
@@ -232,7 +233,7 @@ module _ (k : Bool) (p n : ℕ) (head tail : Option ℕ) (q : Queue) (within : p
       go true e h = absurd (off (grind (arith, nat_tests)))
       go false e h = h
 
-  -- the chain of one that waits is the lone one
+  -- the chain of each waiter is the lone one
   pub stands-lone : (w : Bool) (i : ℕ) → i < most_priority
       → 1 ≤ slice_index (side_of w q).counts i → (w ≡ k) × (i ≡ p)
   stands-lone w i lt some = go (either w k)
@@ -278,7 +279,7 @@ module _ (k : Bool) (p n : ℕ) (head tail : Option ℕ) (q : Queue) (within : p
       ends end i true e o h = refl
       ends end i false e o h = h ∙ ap (λ t. cond t end None) e
 
-  -- one of more is taken out of the chain
+  -- one of several waiters is taken out of the chain
   pub taken-more : (before next : Option ℕ) → n ≢ 0
       → IsTaken k p before next q (lone_queue (cond (is_some before) head next)
       (cond (is_some next) tail before) (n - 1) k p)

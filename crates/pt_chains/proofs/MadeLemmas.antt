@@ -28,14 +28,13 @@ chain-none : (o : ℕ) (k : Bool) (p : ℕ) (es : List (ℕ × Waiter))
 chain-none o k p [] a = refl
 chain-none o k p (e ∷ es) a = rw a.0 (chain-none o k p es a.1)
 
--- a queue that isn't made has no entry
+-- a queue that does not exist has no entry
 pub made-absent : (homes : List (ℕ × ℕ)) (nodes : List (Option Node)) (queues : List (ℕ × Queue))
     (es : List (ℕ × Waiter)) (o : ℕ) → AreChains homes nodes queues es
     → lookup (nat_eq o) queues ≡ None → Each (λ e. (e.0 == o) ≡ false) es
 made-absent homes nodes queues es o a none =
     unmade-none o (numbers queues) es a.stand.made (listed-lookup o queues ∙ ap is_some none)
 
--- a queue is made, or there is no memory for it, or it gives its box back
 -- no client and no queue
 pub chains-none : (homes : List (ℕ × ℕ)) (nodes : List (Option Node)) (queues : List (ℕ × Queue))
     (log : List (Option ℕ × Waiter)) → homes ≡ [] → nodes ≡ [] → queues ≡ [] → log ≡ []

@@ -1,4 +1,4 @@
--- The queues that are made, as one is made, opened or discarded.
+-- The queues that exist, as one is made, opened or discarded.
 use Rattle.std.proofs.Common.{◌≡◌, ℕ, suc, ◌==◌, ◌+◌, ◌-◌, ◌<◌, ◌≤◌, ◌^◌, Bool, true, false, cond}
 use Rattle.std.proofs.Common.{◌||◌, ◌&&◌, not, List, [], ◌∷◌, ◌++◌, length, filter, Option, Some}
 use Rattle.std.proofs.Common.{None, is_some, nat_eq, refl, sym, ap, ◌∙◌, subst, arith}
@@ -36,7 +36,7 @@ pub length-by : (os : List ℕ) (rows : List (ℕ × Queue)) → length (queues_
 length-by os rows =
     sym (length-numbers (queues_by os rows)) ∙ ap length (numbers-by os rows)
 
--- what is said of a queue that is made
+-- the chains of a queue that exists
 pub lookup-by : (os : List ℕ) (rows : List (ℕ × Queue)) (o : ℕ)
     → lookup (nat_eq o) (queues_by os rows)
     ≡ cond (is_listed o os) (Some (queue_at rows o)) None
@@ -68,7 +68,7 @@ said-by os rows o q h = go (is_listed o os) (sym (lookup-by os rows o) ∙ h)
     go true e = some_same (queue_at rows o) q e
     go false e = cc
 
--- a queue that is not made has no row
+-- a queue that does not exist has no row
 pub unmade-by : (os : List ℕ) (rows : List (ℕ × Queue)) (spare : ℕ) (opened : List Bool) (len o : ℕ)
     → AreQueues os rows spare opened len → lookup (nat_eq o) (queues_by os rows) ≡ None
     → lookup (nat_eq o) rows ≡ None
@@ -95,7 +95,7 @@ unnoted-none os rows spare opened len o a h =
     go true e = absurd (false≢true (sym h ∙ a.noted o e))
     go false e = refl
 
--- what holds of a row's chains or of none holds of the queue
+-- what holds for the chains of a row, or for empty ones without a row, holds for the queue
 pub told : (P : Queue → Type 0) (os : List ℕ) (rows : List (ℕ × Queue)) (o : ℕ) (q : Queue)
     → lookup (nat_eq o) (queues_by os rows) ≡ Some q
     → (lookup (nat_eq o) rows ≡ None → P no_queue)
@@ -108,7 +108,7 @@ told P os rows o q h none some =
     go None e = subst (λ f. P (unwrap_or f no_queue)) (sym e) (none e)
     go (Some r) e = subst (λ f. P (unwrap_or f no_queue)) (sym e) (some r e)
 
--- what holds of the queue holds of its row's chains
+-- what holds for the queue holds for the chains of its row
 pub told-row : (P : Queue → Type 0) (os : List ℕ) (rows : List (ℕ × Queue)) (o : ℕ)
     → is_listed o os ≡ true → IfSome (lookup (nat_eq o) (queues_by os rows)) P
     → P (queue_at rows o)
@@ -116,7 +116,7 @@ told-row P os rows o made h =
     subst (λ f. IfSome f P)
     (lookup-by os rows o ∙ ap (λ b. cond b (Some (queue_at rows o)) None) made) h
 
--- different numbers stand once
+-- numbers that differ from each other occur once
 pub unique-numbers : {X : Type 0} (es : List (ℕ × X))
     → IsDistinct (λ a b. a == b) (numbers es) → Unique (numbers es)
 unfolding IsDistinct
@@ -148,7 +148,7 @@ room-by os rows spare opened len o a made none once =
         ap (λ k. is_listed k os) (sym same) ∙ made
     go n false t i = a.made n i
 
--- rows of the same queues and of one more that is made
+-- rows of the same queues and of one more that exists
 pub queues-opened : (os : List ℕ) (rows rows' : List (ℕ × Queue)) (spare spare' : ℕ)
     (opened opened' : List Bool) (len o : ℕ) → AreQueues os rows spare opened len
     → is_listed o os ≡ true
@@ -221,7 +221,7 @@ queues-same (o ∷ os) rows rows' same =
     ap (λ f. (o, unwrap_or f no_queue) ∷ queues_by os rows') (same o)
     ∙ ap (λ qs. (o, queue_at rows o) ∷ qs) (queues-same os rows rows' same)
 
--- other queues stay as they are
+-- other queues are unchanged
 pub others-by : (os : List ℕ) (rows rows' : List (ℕ × Queue)) (o : ℕ)
     → ((x : ℕ) → (o == x) ≡ false → queue_at rows' x ≡ queue_at rows x)
     → (x : ℕ) → (o == x) ≡ false
@@ -230,7 +230,7 @@ others-by os rows rows' o same x other =
     lookup-by os rows' x
     ∙ (ap (λ q. cond (is_listed x os) (Some q) None) (same x other) ∙ sym (lookup-by os rows x))
 
--- no queue is made
+-- no queue exists
 pub queues-none : (log : List (Bool × ℕ)) (rows : List (ℕ × Queue)) (spare : ℕ)
     (opened : List Bool) → log ≡ [] → rows ≡ [] → AreQueues (made_by log) rows spare opened 0
 queues-none log rows spare opened none empty =
@@ -264,7 +264,7 @@ unique-last o (x ∷ os) u n = go (x == o) refl n (λ h. unique-last o os u.1 h)
         let far : (o == x) ≡ false = eq_turned x o t in
         (listed-last o x os ∙ rw (u.0, far) refl, ih h)
 
--- one more is made, which has no row
+-- one more queue is made, which has no row
 module _ (os : List ℕ) (rows : List (ℕ × Queue)) (spare spare' : ℕ) (opened : List Bool) (len o : ℕ)
     (a : AreQueues os rows spare opened len)
     (new : lookup (nat_eq o) (queues_by os rows) ≡ None) where

@@ -1,4 +1,4 @@
--- What is read of a queue that is made, from its row or from none.
+-- What is read of a queue that exists, from its row or from none.
 use Rattle.std.proofs.Common.{◌≡◌, ℕ, ◌==◌, ◌≤◌, Bool, true, false, cond, ◌||◌}
 use Rattle.std.proofs.Common.{List, Option, Some, None, is_some, nat_eq}
 use Rattle.std.proofs.Common.{refl, sym, ap, ◌∙◌, subst, arith, inr}
@@ -20,7 +20,7 @@ use Rattle.pt_chains.proofs.OpenedLemmas.{lookup-by, said-by, unnoted-none, told
 none_some : {X : Type 0} (f : Option X) (x : X) → f ≡ None → f ≡ Some x → ⊥
 none_some f x n e = cc
 
--- what is read of a queue is read of its row, or of none
+-- what is read of a queue is read from its row, or from none
 module _ (os : List ℕ) (rows : List (ℕ × Queue)) (spare : ℕ) (opened : List Bool) (len o : ℕ)
     (a : AreQueues os rows spare opened len) where
   pub first-by : (head : Option ℕ) → (lookup (nat_eq o) rows ≡ None → head ≡ None)
@@ -71,7 +71,7 @@ module _ (os : List ℕ) (rows : List (ℕ × Queue)) (spare : ℕ) (opened : Li
           let there = listed-lookup o rows ∙ ap is_some e in
           absurd (false≢true (sym t ∙ a.made o there))
 
--- what is asked of a queue holds of its row
+-- what holds for a queue holds for its row
 pub row-if : (P : Queue → Type 0) (os : List ℕ) (rows rows' qs : List (ℕ × Queue)) (o : ℕ)
     → is_listed o os ≡ true → queues_by os rows ≡ qs → IfSome (lookup (nat_eq o) qs) P
     → queue_at rows' o ≡ queue_at rows o → IfSome (lookup (nat_eq o) rows') P
@@ -107,7 +107,7 @@ row-waits os rows qs o made view h = go (lookup (nat_eq o) rows) refl
         let no : 1 ≤ 0 = subst (λ f. 1 ≤ (unwrap_or f no_queue).len) e some in
         absurd (omega (arith, no))
 
--- a number that is listed is listed with itself
+-- adding a number that is listed already changes nothing
 pub open-more : (rows : List (ℕ × Queue)) (o x : ℕ) → is_listed o (numbers rows) ≡ true
     → is_listed x (numbers rows) ≡ (is_listed x (numbers rows) || (o == x))
 open-more rows o x there = go (is_listed x (numbers rows)) (o == x) refl refl
@@ -122,14 +122,14 @@ open-more rows o x there = go (is_listed x (numbers rows)) (o == x) refl refl
 pub equal-most : (m n : ℕ) → n ≡ m → m ≤ n
 equal-most m n e = omega (arith, e)
 
--- a number is listed still
+-- a number that had a row still has one
 pub set-there : (rows rows' : List (ℕ × Queue)) (o : ℕ) → numbers rows' ≡ numbers rows
     → IsSome (lookup (nat_eq o) rows) → IsSome (lookup (nat_eq o) rows')
 set-there rows rows' o same there =
     sym (listed-lookup o rows')
     ∙ (ap (is_listed o) same ∙ (listed-lookup o rows ∙ there))
 
--- a row that is not there is taken away
+-- taking away a row that does not exist changes nothing
 pub closed-none : (rows : List (ℕ × Queue)) (o x : ℕ) → lookup (nat_eq o) rows ≡ None
     → lookup (nat_eq x) rows ≡ cond (o == x) None (lookup (nat_eq x) rows)
 closed-none rows o x none = go (o == x) refl

@@ -30,7 +30,7 @@ same-chain : (o x p r : ℕ) (k l : Bool) (d : ℕ × Waiter) (w : Waiter) → i
     → in_chain x k r d ≡ true → in_chain o l p d ≡ true → in_chain x k r (o, w) ≡ true
 same-chain o x p r k l d w a b c = grind (arith, nat_tests)
 
--- who stands in another chain isn't in this one
+-- a node of another chain is not in this one
 pub other-chain : (f : ℕ → ℕ) (o x p r m : ℕ) (k l : Bool) (w : Waiter) (es : List (ℕ × Waiter))
     → IsOnce es
     → ((d e : ℕ × Waiter) → In d es → In e es → f d.1.client ≡ f e.1.client
@@ -59,7 +59,7 @@ nodes-append : (f : ℕ → ℕ) (es : List (ℕ × Waiter)) (e : ℕ × Waiter)
 nodes-append f [] e = refl
 nodes-append f (x ∷ es) e = ap (λ ns. f x.1.client ∷ ns) (nodes-append f es e)
 
--- what a node says after the change, if it is neither the new one nor the last of its chain
+-- a node that is neither the new one nor the last of its chain keeps its link
 kept-node : (new old : ℕ → Option ℕ) (n : ℕ) (last u : Option ℕ)
     → ((c : ℕ) → new c ≡ cond (n == c) None (cond (is_at c last) u (old c)))
     → (m : ℕ) → (n == m) ≡ false → is_at m last ≡ false → new m ≡ old m
@@ -79,7 +79,7 @@ module _ (f : ℕ → ℕ) (n : ℕ) (nodes nodes' : List (Option Node)) (es : L
     (cond (is_at c (slice_index_or side.tails p None)) (Some n) (next_in nodes c)))
     (hb : (c : ℕ) → before_in nodes' c
     ≡ cond (n == c) (slice_index_or side.tails p None) (before_in nodes c)) where
-  -- a chain that the waiter doesn't belong to
+  -- a chain to which the waiter does not belong
   put-other : (x r : ℕ) (k : Bool) (old new : Side) → in_chain x k (r + 1) (o, w) ≡ false
       → slice_index new.counts r ≡ slice_index old.counts r
       → slice_index_or new.tails r None ≡ slice_index_or old.tails r None

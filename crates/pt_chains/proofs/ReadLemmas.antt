@@ -18,7 +18,7 @@ read-set {X} xs p i y d within = go (p == i) refl
     go false e =
         get_or-set_other xs p i y d (λ same. false≢true (sym e ∙ eq-eqb p i (sym same)))
 
--- a count after one less
+-- a count after one was lowered by one
 pub read-less : (xs ys : List ℕ) (p i : ℕ) → xs ≡ ys → p < length ys
     → get_or (set xs p (get_or xs p 0 - 1)) i 0
     ≡ cond (p == i) (get_or ys p 0 - 1) (get_or ys i 0)
@@ -39,7 +39,7 @@ neither : (b : Bool) → false ≡ (b && false)
 neither true = refl
 neither false = refl
 
--- an end that is written only if nothing is there
+-- an end that is written only if there was none
 pub read-if : (xs ys : List (Option ℕ)) (p i : ℕ) (y : Option ℕ) (there empty : Bool)
     → there ≡ not empty
     → ((empty ≡ true) × (xs ≡ set ys p y)) ⊎ ((empty ≡ false) × (xs ≡ ys)) → p < length ys

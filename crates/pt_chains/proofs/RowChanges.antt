@@ -1,4 +1,4 @@
--- A row that is written, added, or taken away: what is said of all rows then.
+-- A row that is written, added or taken away: what is then true of all rows.
 use Rattle.std.proofs.Common.{◌≡◌, ◌≢◌, ◌<◌, ℕ, zero, suc, ◌==◌, Bool, true, false, cond, ◌||◌}
 use Rattle.std.proofs.Common.{List, [], ◌∷◌, length, Option, Some, None, is_some, nat_eq, eq-eqb}
 use Rattle.std.proofs.Common.{refl, sym, ap, ◌∙◌, arith}
@@ -97,7 +97,7 @@ module _ (places : List (ℕ × ℕ)) (slots : List (Option (ℕ × Queue))) (s 
       ≡ lookup (nat_eq x) (rows_by places slots)
   others-set = others-written places slots (slice_set slots s (Some (r.0, q))) s a head others
 
--- a number gets a row, in a slot in which there was none
+-- a number gets a row, in a slot that had none
 module _ (places places' : List (ℕ × ℕ)) (slots slots' : List (Option (ℕ × Queue))) (o s : ℕ)
     (a : AreRows places slots) (none : lookup (nat_eq o) places ≡ None)
     (placed : (x : ℕ)

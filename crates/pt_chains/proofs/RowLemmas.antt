@@ -1,4 +1,4 @@
--- What is said of a queue's row by its slot.
+-- What is known of a queue's row by its slot.
 use Rattle.std.proofs.Common.{◌≡◌, ℕ, suc, ◌==◌, Bool, true, false, cond, List, [], ◌∷◌, length}
 use Rattle.std.proofs.Common.{Option, Some, None, is_some, nat_eq, eq-eqb, refl, sym, ap, ◌∙◌, ◌+◌}
 use Rattle.std.proofs.Common.{subst, arith}
@@ -18,7 +18,7 @@ use Rattle.pt_chains.proofs.ChainLemmas.{listed-lookup, some_same}
 pub none_some : {X P : Type 0} (x : X) → None ≡ Some x → P
 none_some x e = absurd (cc e)
 
--- what a queue that was found says
+-- what is true of a value is true of the one that was found
 pub found-row : {X : Type 0} (P : X → Type 0) (f : Option X) (x y : X) → Some x ≡ f → f ≡ Some y
     → P x → P y
 found-row P f x y found is p = subst P (ap (λ o. unwrap_or o x) (found ∙ is)) p
@@ -87,7 +87,7 @@ placed-listed places slots o s at = listed-rows places slots o ∙ ap is_some at
 
 module _ (places : List (ℕ × ℕ)) (slots : List (Option (ℕ × Queue)))
     (a : AreRows places slots) where
-  -- a row in a slot is the one of the number that it has
+  -- a row in a slot is the row of the number in it
   pub row-here : (o s : ℕ) (q : Queue) → row_in slots s ≡ Some (o, q)
       → lookup (nat_eq o) (rows_by places slots) ≡ Some q
   row-here o s q e =

@@ -1,4 +1,4 @@
--- What is seen of a queue by its box and by its lone chain, if that isn't put into the box.
+-- What is seen of a queue from its box, and from its lone chain if that is not in the box.
 use Rattle.std.proofs.Common.{◌≡◌, ℕ, ◌≤◌, ◌<◌, Bool, true, false, Option, Some, None, is_some}
 use Rattle.std.proofs.Common.{◌≢◌, ◌+◌, ◌-◌, ◌||◌, cond, inr, refl, sym, ap, ◌∙◌, subst, arith}
 use Rattle.std.specs.Prelude.{◌↔◌, slice_index, unwrap_or, IfSome, IsSome, IsTrue}
@@ -49,7 +49,7 @@ module _ {X : Type 0} (f : X → Queue) (o : Option X) (head tail : Option ℕ) 
       (subst (IsLone k p (Some h.0) tail n) (seen-as (Some h.0) h.1)
       (lone-queue k p n (Some h.0) tail (lone-within some)))
 
-  -- with no box no one waits
+  -- a queue without a box is empty
   pub unboxed : is_some o ≡ false → no_queue ≡ queue
   unboxed none = go o refl head refl
     where
@@ -60,7 +60,7 @@ module _ {X : Type 0} (f : X → Queue) (o : Option X) (head tail : Option ℕ) 
       go None e (Some h) d =
           absurd (subst (λ x. MatchOption (option_map f x) ⊥ HasNone) e (kept-as (Some h) d).3)
 
-  -- with no lone chain what is seen is in the box
+  -- without a lone chain, what is seen is in the box
   pub seen-boxed : is_some head ≡ false → (b : X) → o ≡ Some b → f b ≡ queue
   seen-boxed none b is = go head refl
     where
@@ -76,7 +76,7 @@ module _ {X : Type 0} (f : X → Queue) (o : Option X) (head tail : Option ℕ) 
       go (Some h) d = absurd (false≢true (sym none ∙ ap is_some d))
       go None d = subst (λ x. IfSome (option_map f x) (λ q. q.len ≢ 0)) is (kept-as None d)
 
-  -- a lone chain stays one with another end
+  -- a lone chain with another end is still one
   pub kept-lone : (t : Option ℕ) (m : ℕ) → is_some head ≡ true → IsSome t → m ≢ 0
       → IsKept (option_map f o) head t m p
   kept-lone t m some there waits =
@@ -127,7 +127,7 @@ module _ {X : Type 0} (f : X → Queue) (o : Option X) (head tail : Option ℕ) 
       ∙ (ap (slice_index (side_of k queue).counts) level
       ∙ own-count k p n head tail queue within is)
 
-  -- the last one is taken out of the lone chain
+  -- the last waiter is taken out of the lone chain
   pub lone-emptied : (w : Bool) (i : ℕ) (before next : Option ℕ) → i < most_priority
       → is_some head ≡ true → n ≡ 1 → is_some before ≡ false → is_some next ≡ false
       → 1 ≤ slice_index (side_of w queue).counts i
@@ -159,7 +159,7 @@ module _ {X : Type 0} (f : X → Queue) (o : Option X) (head tail : Option ℕ) 
       go (Some q) empty =
           record { taken = taken q empty; emptied = (empty.len, refl); left = tt }
 
-  -- one of more is taken out of the lone chain
+  -- one of several waiters is taken out of the lone chain
   module _ (w : Bool) (i : ℕ) (before next : Option ℕ) (lt : i < most_priority)
       (some : is_some head ≡ true) (more : n ≢ 1)
       (beside : (is_some before || is_some next) ≡ true)

@@ -1,4 +1,4 @@
--- Slots: what is read of nodes after one is written.
+-- What is read from nodes after one is written.
 use Rattle.std.proofs.Common.{◌≡◌, ℕ, ◌==◌, ◌<◌, Bool, true, false, cond, List, [], ◌∷◌, length}
 use Rattle.std.proofs.Common.{zero, suc, Option, Some, None, IsSome, refl, sym, ap, ◌∙◌, arith}
 use Rattle.std.proofs.Math.ListN.{set}

@@ -15,7 +15,7 @@ pub insert-last : (w : Waiter) (vs : List Waiter) → Each (λ v. comes_before w
 insert-last w [] a = refl
 insert-last w (v ∷ vs) a = rw a.0 (ap (λ xs. v ∷ xs) (insert-last w vs a.1))
 
--- one of the same kind that isn't later stays ahead
+-- a waiter of the same kind that is not later stays ahead
 pub latest-behind : (w v : Waiter) (k : Bool) (p : ℕ) → is_kind k p w ≡ true → is_kind k p v ≡ true
     → (is_like v w && pair_before (arrival w) (arrival v)) ≡ false → comes_before w v ≡ false
 latest-behind w v k p a b c = grind (arith, nat_tests)
@@ -72,7 +72,7 @@ map-append : (es : List (ℕ × Waiter)) (e : ℕ × Waiter)
 map-append [] e = refl
 map-append (x ∷ es) e = ap (λ ws. x.1 ∷ ws) (map-append es e)
 
--- who is the latest of its kind goes after its chain, which stays in the order of arrival
+-- the latest waiter of its kind goes after its chain, which stays in order of arrival
 pub sorted-more : (o : ℕ) (k : Bool) (p : ℕ) (es : List (ℕ × Waiter)) (w : Waiter)
     → is_kind k p w ≡ true → IsLatest w (queue_of o es)
     → queue_of o (chain_of o k p es) ≡ map (λ e. e.1) (chain_of o k p es)
@@ -87,7 +87,7 @@ sorted-more o k p es w a l s =
     ∙ (insert-last w (filter (is_kind k p) (queue_of o es)) (kind-behind w k p (queue_of o es) a l)
     ∙ (ap (λ ws. ws ++ w ∷ []) (sym (kind-of o k p es) ∙ s) ∙ sym (map-append chain (o, w))))))
 
--- and stays so where some are taken out
+-- and stays so if some are taken out
 pub sorted-fewer : (o : ℕ) (t : Waiter → Bool) (es : List (ℕ × Waiter))
     → queue_of o es ≡ map (λ e. e.1) es
     → queue_of o (filter (λ e. t e.1) es) ≡ map (λ e. e.1) (filter (λ e. t e.1) es)

@@ -1,4 +1,4 @@
--- A waiter put in or taken out: from what the calls below say to what is true of all.
+-- A waiter is put in or taken out: from what the calls below promise to what is true of all.
 use Rattle.std.proofs.Common.{◌≡◌, ℕ, ◌==◌, ◌<◌, ◌≤◌, ◌+◌, ◌^◌, Bool, true, false, cond, ◌&&◌, ◌||◌}
 use Rattle.std.proofs.Common.{not, List, [], ◌∷◌, ◌++◌, filter, Option, Some, None, is_some}
 use Rattle.std.proofs.Common.{unwrap_or, slice_index_or, nat_eq, refl, sym, ap, ◌∙◌, subst, arith}
@@ -27,7 +27,7 @@ use Rattle.pt_chains.proofs.InsertLemmas.{chain-room, queue-room}
 use Rattle.pt_chains.proofs.PutLemmas.{chains-put}
 use Rattle.pt_chains.proofs.TakeLemmas.{chains-taken, count-own, len-own, listed-own}
 
--- those that stand after one more call
+-- the waiters after one more call
 waiting_from-more : (es : List (ℕ × Waiter)) (log : List (Option ℕ × Waiter))
     (a : Option ℕ × Waiter)
     → waiting_from es (log ++ a ∷ []) ≡ after (waiting_from es log) a.0 a.1
@@ -43,7 +43,7 @@ pub some-if : {X : Type 0} (P : X → Type 0) (o : Option X) → ((x : X) → o 
 some-if P None f = tt
 some-if P (Some x) f = f x refl
 
--- queues of which one is changed
+-- the queues after one of them is changed
 queues-changed : (queues queues' : List (ℕ × Queue)) (o : ℕ) (q1 : Queue)
     → ((x : ℕ) → (o == x) ≡ false → lookup (nat_eq x) queues' ≡ lookup (nat_eq x) queues)
     → lookup (nat_eq o) queues' ≡ Some q1
@@ -121,7 +121,7 @@ beside-if P nx bf n b (k ∷ ks) l i h f =
 
 module _ (homes : List (ℕ × ℕ)) (nodes : List (Option Node)) (queues : List (ℕ × Queue))
     (es : List (ℕ × Waiter)) (a : AreChains homes nodes queues es) where
-  -- the nodes of a chain are there
+  -- the nodes of a chain exist
   chain-there : (o : ℕ) (k : Bool) (p m : ℕ)
       → is_listed m (nodes_of (index_of homes) (chain_of o k p es)) ≡ true
       → IsSome (node_in nodes m)
@@ -130,7 +130,7 @@ module _ (homes : List (ℕ × ℕ)) (nodes : List (Option Node)) (queues : List
       a.homed.there d.0.1.client m
       (index-there homes nodes queues es a d.0 d.1 ∙ ap (λ x. Some x) d.3)
 
-  -- there is room for one more
+  -- there is room for one more waiter
   pub room-there : (o c n : ℕ) (k : Bool) (p : ℕ) → p < most_priority
       → home_of homes c ≡ Some n → has_waiter c es ≡ false
       → IfSome (lookup (nat_eq o) queues) (λ q. slice_index (side_of k q).counts p + 1 < 2 ^ 32)
@@ -150,7 +150,7 @@ module _ (homes : List (ℕ × ℕ)) (nodes : List (Option Node)) (queues : List
       let room = queue-room homes nodes queues es c n a at none o in
       omega (arith, len, room))
 
-  -- the tail of a chain is there
+  -- the tail of a chain exists
   pub tail-there : (o : ℕ) (q : Queue) (k : Bool) (p : ℕ) (last : Option ℕ) → p < most_priority
       → lookup (nat_eq o) queues ≡ Some q → last ≡ slice_index_or (side_of k q).tails p None
       → IfSome last (λ l. IsSome (node_in nodes l))
@@ -278,7 +278,7 @@ module _ (homes : List (ℕ × ℕ)) (nodes nodes' : List (Option Node))
         (homed-still homes nodes nodes' there
         (λ m c e. a.homed.own m c (sym (clients m) ∙ e)) a.homed)
 
--- who is admitted, as waiters are put in and taken out
+-- the clients that are admitted, as waiters are put in and taken out
 pub put-admits : (hs : List ℕ) (es : List (ℕ × Waiter)) (e : ℕ × Waiter) (d : ℕ)
     → is_listed e.1.client hs ≡ true
     → (is_listed d hs || has_waiter d (es ++ e ∷ [])) ≡ (is_listed d hs || has_waiter d es)
@@ -310,7 +310,7 @@ take-admits hs es c d h =
         rw yes refl
     go false x y q k = refl
 
--- what a client's node says
+-- the entry of a client is that of its node
 pub place-entry : (homes : List (ℕ × ℕ)) (nodes : List (Option Node)) (c n : ℕ) (its : Node)
     → home_of homes c ≡ Some n → node_in nodes n ≡ Some its
     → entry_of homes nodes c ≡ entry_at its

@@ -47,7 +47,7 @@ filter-swap p q (x ∷ xs) = go (p x) (q x) refl refl (filter-swap p q xs)
     go false true e h ih = rw e ih
     go false false e h ih = ih
 
--- the one ahead of a node of a chain isn't in another
+-- the node ahead of a node of one chain is not in another
 ahead_apart : (nx bf : ℕ → Option ℕ) (m n : ℕ) (ns : List ℕ) → Links nx bf None ns
     → is_listed n ns ≡ true → is_listed m ns ≡ false → is_at m (bf n) ≡ false
 ahead_apart nx bf m n [] l i o = absurd (false≢true i)
@@ -216,7 +216,7 @@ module _ (homes : List (ℕ × ℕ)) (nodes nodes' : List (Option Node))
         IsChain (next_in nodes') (before_in nodes') (side_of l u) r
         (nodes_of (index_of homes) (chain_of y l (r + 1) fewer))
 
-    -- a chain that the waiter doesn't belong to
+    -- a chain to which the waiter does not belong
     other : (x r : ℕ) (k : Bool) (old new : Side) → in_chain x k (r + 1) (o, w) ≡ false
         → slice_index new.counts r ≡ slice_index old.counts r
         → slice_index_or new.tails r None ≡ slice_index_or old.tails r None

@@ -42,7 +42,7 @@ answers-one old new e is =
     gap : place (past_of old) - old.start.at ≡ length old.entries
     gap = omega (arith, place_of_next old)
 
--- they are that of its own call
+-- they are the answer of its own call, if it has one
 own : (h : History) → Follows h → (v : Event) → told_in h (entry_for h v) ++ []
     ≡ own_told v (place h) (told_at_once v (h ▷ entry_for h v) (place h))
 own h f (event.Call c call) = go (reply (verdict h c call))

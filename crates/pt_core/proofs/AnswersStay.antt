@@ -1,4 +1,4 @@
--- The answer of a call's own entry is the call's answer still, after the forced entries.
+-- The answer of a call's own entry is still the call's answer after the forced entries.
 use Rattle.std.proofs.Common.{◌≡◌, ℕ, suc, ◌+◌, ◌==◌, List, [], ◌∷◌, Option, Some, None, is_some}
 use Rattle.std.proofs.Common.{true, length, refl, sym, ap, ◌∙◌, subst, arith, append_assoc}
 use Rattle.std.proofs.lemmas.Bool.Decides.{nat_tests}
@@ -24,7 +24,7 @@ use Rattle.pt_legal.specs.Applying.{IsToldStill}
 use Rattle.pt_core.specs.Settling.{Enters, Forces, IsReady, IsSettling}
 use Rattle.pt_core.proofs.SettlingLemmas.{ready-follows}
 
--- an answer stays
+-- a call still has its answer after one more entry
 told-step : (h : History) (e : Entry) (j : ℕ) (x : Outcome) → Follows h → Step h e
     → outcome h j ≡ Some x → outcome (h ▷ e) j ≡ Some x
 told-step h e j x f s is = go (outcome_in (told h e) j) (answers-unanswered h e j f s)
@@ -34,7 +34,7 @@ told-step h e j x f s is = go (outcome_in (told h e) j) (answers-unanswered h e 
     go None fresh = is
     go (Some y) fresh = absurd (let no = sym is ∙ fresh refl in cc)
 
--- while forced entries follow
+-- and after the forced entries
 pub told-kept : (h : History) (fs : List Entry) (j : ℕ) (x : Outcome) → Follows h → Forces h fs
     → outcome h j ≡ Some x → outcome (onto h fs) j ≡ Some x
 told-kept h [] j x f a is = is
@@ -42,13 +42,13 @@ told-kept h (e ∷ fs) j x f a is =
     let s = step-forced h e a.0 in
     told-kept (h ▷ e) fs j x (f, s) a.1 (told-step h e j x f s is)
 
--- it is there with the call's own entry
+-- a call's own entry gives its answer
 pub told-called : (h : History) (c : ℕ) (call : _) (x : Outcome)
     → outcome (h ▷ Call c call (Some x)) (place h) ≡ Some x
 told-called h c call x =
     let there : (place h == place h) ≡ true = grind (arith, nat_tests) in rw there refl
 
--- no entry follows where the list of them has no length
+-- a list of length 0 is empty
 empty : (fs : List Entry) → length fs ≡ 0 → fs ≡ []
 empty [] e = refl
 empty (f ∷ fs) e = absurd (omega arith)
@@ -100,7 +100,7 @@ module _ (old new : Stored) (v : Event) (r : IsReady old v) (ok : refusal (past_
       go (event.Death c) a same = tt
       go (event.Moment k t) a same = tt
 
--- and so is the answer of a call that was granted as it came
+-- a call that was granted as it came also still has its answer
 pub told-settled : (now u : Stored) (j : ℕ) (x : Outcome) → Follows (past_of now)
     → IsSettling now u → outcome (past_of now) j ≡ Some x → outcome (past_of u) j ≡ Some x
 told-settled now u j x f s is =

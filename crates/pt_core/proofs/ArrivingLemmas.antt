@@ -1,4 +1,4 @@
--- ArrivingLemmas: what came of an arrival at a barrier that waits.
+-- ArrivingLemmas: the result of an arrival that waits at a barrier.
 use Rattle.std.proofs.Common.{◌≡◌, ℕ, ◌+◌, ◌-◌, Bool, true, false, Option, None, length, refl}
 use Rattle.std.proofs.Common.{sym, ap, ◌∙◌, subst, arith}
 use Rattle.pt_types.specs.declared.call.Call.{Call as Asked}
@@ -43,7 +43,7 @@ module _ {A : Type 0} (s : State A) (c : ℕ) (call : Asked)
       subst (λ (e : Entry). IsReadyAfter s e) enters (ready-after s (event.Call c call) o ok)
 
   module _ (new : State A) where
-    -- it begins what is settled, with a Trip or without
+    -- its entry begins the event, with a Trip or without
     begins-arrival : Adds s (Call c call None) new → Begins s (event.Call c call) new
     begins-arrival a =
         begins-outer s (event.Call c call) o ok new
@@ -68,7 +68,7 @@ module _ {A : Type 0} (s : State A) (c : ℕ) (call : Asked)
         ∙ (Fresh-follows (past s) ready-arrival.read.follows).answers (place (past s))
         (omega arith)
 
--- an arrival that was written has this answer by then
+-- an arrival that was written has this answer after all that followed it
 pub wrote-arrival : {A : Type 0} (old new : State A) (v : Event) → HasRoom old v old
     → refusal (past old) v ≡ None → needs_seal old.stored.limit (past old) v ≡ false
     → Enters old.stored v new.stored → IsRoomy new → (x : Option Outcome)

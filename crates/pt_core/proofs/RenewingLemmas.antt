@@ -1,4 +1,5 @@
--- A state that was sealed with room for an event: it is as before for what comes, and has the room.
+-- A state that was sealed with room for an event: what follows is the same, and there is room for
+-- it.
 use Rattle.std.proofs.Common.{◌≡◌, ℕ, ◌+◌, ◌≤◌, None, [], length, refl, sym, ap, ◌∙◌, subst, arith}
 use Rattle.pt_model.specs.declared.entry.Entry.{Entry}
 use Rattle.pt_model.specs.declared.entry.Event.{Event}
@@ -59,7 +60,7 @@ module _ {A : Type 0} (old : State A) (whole : IsWhole old) (v : Event)
   pub step-renewed : Step (Begin (seal (past old))) (entry_for (past old) v)
   step-renewed = subst (Step g) (sym (alike.enters v)) (step-event g v quiet refused)
 
-  -- it gives one answer at most there
+  -- it gives at most one answer there
   pub told-renewed : length (told (Begin (seal (past old))) (entry_for (past old) v)) ≤ 1
   told-renewed =
       subst (λ (e : Entry). length (told (Begin (seal (past old))) e) ≤ 1) (sym (alike.enters v))
@@ -80,7 +81,7 @@ module _ {A : Type 0} (old : State A) (whole : IsWhole old) (v : Event)
     pub same-entry : entry_for (past old) v ≡ entry_for (past new) v
     same-entry = alike.enters v ∙ ap (λ (x : History). entry_for x v) (sym begins)
 
-    -- as much is needed as before
+    -- the need is unchanged
     needed : need (past new) ≡ need (past old)
     needed = ap need begins ∙ sym alike.needs
 
@@ -105,7 +106,7 @@ module _ {A : Type 0} (old : State A) (whole : IsWhole old) (v : Event)
     fits_new : length new.stored.entries + new.stored.room ≤ new.stored.limit
     fits_new = omega (arith, ap length s.entries, s.room, s.limit, fits)
 
-    -- the state has the room
+    -- the state has room for the event
     pub roomy-renewed : HasRoom new v new
     roomy-renewed =
         record {
@@ -153,7 +154,7 @@ module _ {A : Type 0} (old : State A) (whole : IsWhole old) (v : Event)
     pub roomy-added : IsRoomy after
     roomy-added = roomy-outer a.sealed v open_there accepted_there after added
 
-    -- and once that is there too, the event was entered
+    -- and after that was added too, the event was entered
     pub enters-renewed : (new : Stored) → Settles after.stored new
         → EntersSealed old.stored v new
     enters-renewed new st =
@@ -167,7 +168,7 @@ module _ {A : Type 0} (old : State A) (whole : IsWhole old) (v : Event)
           enters = enters-outer a.sealed v open_there accepted_there after added new st;
         }
 
--- more memory for answers leaves the room for what must follow
+-- if the memory for answers stays or grows, there is still room for what must follow
 pub roomy-kept : {A : Type 0} (old new : State A) → StaysOrGrows old new → IsRoomy old
     → IsRoomy new
 roomy-kept old new s r =

@@ -1,4 +1,4 @@
--- Which events need a seal, and when an event is refused if a seal makes room.
+-- Which events need a seal, and which are refused if a seal can make room.
 use Rattle.std.proofs.Common.{◌≡◌, ℕ, ◌+◌, ◌≤◌, ◌<◌, Bool, true, false, cond, nat_le, nat_lt, ◌&&◌}
 use Rattle.std.proofs.Common.{◌||◌, Some, None, refl, sym, ap, ◌∙◌, arith}
 use Rattle.std.proofs.lemmas.Bool.Decides.{nat_tests}
@@ -31,7 +31,7 @@ full : (limit held room at most : ℕ) → limit < held + room → room ≤ limi
     ≡ true
 full limit held room at most l r p = grind (arith, nat_tests)
 
--- only the numbers decide
+-- only the number of the next place decides
 places-alone : (limit held room at most : ℕ) → limit < held + room → room ≤ limit
     → (nat_lt limit room || ((nat_lt limit (held + room) && nat_le room limit) && nat_lt most at))
     ≡ nat_lt most at
@@ -42,14 +42,14 @@ none-needed : (limit held room : ℕ) → held + room ≤ limit
 none-needed limit held room l = grind (arith, nat_tests)
 
 module _ (limit : ℕ) (h : History) (v : Event) where
-  -- what a plan says that is needed
+  -- whether a seal is needed, by the need in a plan
   pub planned-seal : (n : ℕ) (needed : Bool) → n ≡ need (h ▷ entry_for h v)
       → needed ≡ (nat_lt limit (held h + (1 + n)) && nat_le (1 + n) limit)
       → needed ≡ needs_seal limit h v
   planned-seal n needed en is =
       is ∙ ap (λ (k : ℕ). nat_lt limit (held h + (1 + k)) && nat_le (1 + k) limit) en
 
-  -- one that needs a seal is refused only if no numbers are left for places
+  -- an event that needs a seal is refused only if no numbers are left for places
   pub refused-sealed : refusal h v ≡ None → needs_seal limit h v ≡ true → (at : ℕ) → at ≡ place h
       → cond (nat_lt most_places at) (Some Full) None ≡ refusal_with_seals limit h v
   refused-sealed ok e at is =
@@ -67,7 +67,7 @@ module _ (limit : ℕ) (h : History) (v : Event) where
       ∙ ap (λ b. cond b (Some Full) None)
       (fits limit (held h) (room_for h v) (place h) most_places l p)
 
-  -- without it is full
+  -- without them it is FULL
   pub full-sealed : refusal h v ≡ None → needs_seal limit h v ≡ true → most_places < place h
       → refusal_with_seals limit h v ≡ Some Full
   full-sealed ok e p =
@@ -76,7 +76,7 @@ module _ (limit : ℕ) (h : History) (v : Event) where
       ∙ ap (λ b. cond b (Some Full) None)
       (full limit (held h) (room_for h v) (place h) most_places parts.0 parts.1 p)
 
--- where there is room for it, an event isn't refused
+-- an event for which there is room is not refused
 pub ready-within : (s : Stored) (v : Event) → IsReady s v → refusal (past_of s) v ≡ None
     → refusal_within s.limit (past_of s) v ≡ None
 ready-within s v r ok =
@@ -85,7 +85,7 @@ ready-within s v r ok =
     ∙ ap (λ b. cond b (Some Full) None)
     (none-over s.limit _ (omega (arith, r.room, r.fits, held-past s)))
 
--- what has its room already needs no seal
+-- an event for which there is room already needs no seal
 pub room-unsealed : (s : Stored) (v : Event) → IsKept s → room_for (past_of s) v ≤ s.room
     → needs_seal s.limit (past_of s) v ≡ false
 room-unsealed s v k l =
@@ -97,7 +97,7 @@ pub death-unsealed : (s : Stored) (c : ℕ) → IsKept s → is_alive (past_of s
     → needs_seal s.limit (past_of s) (event.Death c) ≡ false
 death-unsealed s c k alive = room-unsealed s (event.Death c) k (death-fits s k c alive)
 
--- so what needs one is no Death
+-- so an event that needs one is not a Death
 pub no-death : (s : Stored) (v : Event) → IsKept s → refusal (past_of s) v ≡ None
     → needs_seal s.limit (past_of s) v ≡ true → is_death v ≡ false
 no-death s (event.Death c) k ok needs =

@@ -67,7 +67,7 @@ places-left at e = go (nat_lt most_places at) refl e
 pub refused-full : (s : Stored) → most_places < place (past_of s) → Full ≡ seal_refusal (kept s)
 refused-full s l = ap (λ b. cond b Enomem Full) (sym (le-false (place (past_of s)) most_places l))
 
--- there are, and memory lacks
+-- numbers are left, and memory is lacking
 pub refused-memory : (s : Stored) → place (past_of s) ≤ most_places
     → Enomem ≡ seal_refusal (kept s)
 refused-memory s l = ap (λ b. cond b Enomem Full) (sym (le-true (place (past_of s)) most_places l))
@@ -87,7 +87,7 @@ module _ {A : Type 0} (old : State A) (whole : IsWhole old) where
     alike = agrees_on (past old) (Begin (seal (past old))) follows (start-seal (past old) follows)
         (seal_agrees (past old) follows)
 
-    -- as much is needed as before
+    -- the need is unchanged
     needed : need (past new) ≡ need (past old)
     needed = ap need (past-sealed old new s) ∙ sym alike.needs
 

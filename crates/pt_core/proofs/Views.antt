@@ -1,4 +1,4 @@
--- A core shows what is kept of its state.
+-- A core shows what is stored of its state.
 use Rattle.std.proofs.Common.{◌≡◌, ap, ◌∙◌}
 use Rattle.pt_state.specs.declared.state.State.{State}
 use Rattle.pt_legal.specs.Cores.{Seen, shown}

@@ -1,4 +1,4 @@
--- What is answered of an event: it is refused, or accepted.
+-- What is written for an event: it is refused or accepted.
 use Rattle.std.proofs.Common.{◌≡◌, ℕ, suc, ◌-◌, ◌<◌, Bool, true, false, cond, List, [], ◌∷◌, ◌++◌}
 use Rattle.std.proofs.Common.{length, take, drop, Option, Some, None, nat_eq, refl, sym, ap, subst}
 use Rattle.std.proofs.Common.{◌∙◌, append_assoc, arith}
@@ -34,7 +34,7 @@ use Rattle.pt_engine.specs.Engines.{greeting_marked}
 use Rattle.pt_engine.proofs.Counted.{lookup_push, count_by_push}
 use Rattle.pt_engine.proofs.Opened.{limit_opened, place_opened}
 
--- what an engine of these parts stands for
+-- what an engine with these parts is seen as
 abbrev pub seen_as : Kept → Known → List (ℕ × LineId) → Script
 seen_as core names calls = record {
   start = core.start;
@@ -89,14 +89,14 @@ answers_are core next v a applied =
     ∙ answers_added core (entry_for (past core) v ∷ applied.writes.extends.0) a.first
     applied.first
 
--- the same core, with as many entries as there may be at most
+-- the same core with a script's limit
 abbrev pub full : Kept → Kept
 full core = record core { limit = entries_between_seals }
 
 limited : (core : Kept) → core.limit ≡ entries_between_seals → core ≡ full core
 limited core is = ap (λ n. let k : Kept = record core { limit = n } in k) is
 
--- an event that is applied leaves the limit
+-- applying an event leaves the limit unchanged
 pub limit_next : (core next : Kept) (v : Event) (a : Applied) → core.limit ≡ entries_between_seals
     → IsApplied core v next a → next.limit ≡ entries_between_seals
 limit_next core next v a is done =
@@ -109,7 +109,7 @@ applied_full core next v a is done =
     subst (λ k. IsApplied (full core) v k a)
     (limited next (limit_next core next v a is done)) from
 
--- the place of its entry is the next one, sealed or not
+-- the place of its entry is the next one, whether the core is sealed or not
 pub place_first : (core next : Kept) (v : Event) (a : Applied)
     → IsApplied core v next a → a.first ≡ place (past core)
 place_first core next v a done = done.written.first ∙ place_opened core v
@@ -207,7 +207,7 @@ refused s core next names calls noted v line why out told is whole stays kept re
       written = ap (refusal_text line) is_it;
     })
 
--- no call is noted at a place that comes, also after an accepted event
+-- no call is noted at a later place, even after an accepted event
 pub fresh_noted : (calls noted : List (ℕ × LineId)) (m : Mark) (line : LineId) (place next : ℕ)
     → IsFresh calls place → place < next → noted ≡ calls_marked m line place calls
     → IsFresh noted next
@@ -235,7 +235,7 @@ same_as_itself (Named name) = (bytes_eq-Decides name name).1 refl
 same_as_itself Star = refl
 same_as_itself Unknown = refl
 
--- a counted line is one
+-- after a line is counted, its client has at least one line
 pub some_seen : (seen : List Who) (who : Who) → 0 < lines_of_who (seen ++ who ∷ []) who
 some_seen seen who =
     let count = count_by_push (λ w. same_who w who) seen who

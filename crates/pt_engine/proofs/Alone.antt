@@ -34,7 +34,7 @@ none_left : (es : List Entry) (n : ℕ) → n ≡ n + length es → es ≡ []
 none_left [] n same = refl
 none_left (e ∷ es) n same = absurd (omega (arith, same))
 
--- the answers of an event's entry, by the answer that its call has then
+-- the answers of an event's entry, by the answer that its call then has
 told_alone : (h : History) (v : Event) → Follows h
     → replies_from h (entry_for h v ∷ [])
     ≡ own_answers (mark_of v) (place h) (told_at_once v (h ▷ entry_for h v) (place h))
@@ -97,7 +97,7 @@ own_as (event.Join p) j x = refl
 own_as (event.Death c) j x = refl
 own_as (event.Moment k t) j x = refl
 
--- the answers of an accepted event that is known to have answered its own call alone
+-- the answers of an accepted event that is known to have answered only its own call
 pub answers_only : (core next : Kept) (v : Event) (a : Applied) (m : Mark)
     → IsApplied core v next a → m ≡ mark_of v → a.alone ≡ true
     → answers_behind next.start a.first next.entries ≡ own_answers m a.first a.outcome

@@ -18,14 +18,14 @@ use Rattle.pt_model.specs.Steps.{Step, calls, grants, trips, expires, Follows}
 use Rattle.pt_model.proofs.Found.{found_open}
 use Rattle.pt_model.proofs.Lists.{Each-from_in, In-filter}
 
--- what is said of the calls that an entry may answer, by their places and clients: of its own, if
--- it is a call, and else of all that are open
+-- what holds of the calls that an entry may answer, by their places and clients: of its own call if
+-- it is a call, and otherwise of all open calls
 abbrev pub IsForAnswered : (ℕ → ℕ → Type 0) → History → Entry → Type 0
 IsForAnswered P h (Call c call r) = P (place h) c
 IsForAnswered P h _ = (w : WaitingCall) → In w (open_calls h) → P w.place w.client
 
 module _ (P : ℕ → ℕ → Type 0) where
-  -- an answer to such a call
+  -- the statement about the call of an answer
   abbrev pub IsOfCall : Told → Type 0
   IsOfCall t = P t.place t.client
 

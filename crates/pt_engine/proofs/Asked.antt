@@ -1,5 +1,5 @@
 -- Each answer of an event is under the event's own line, or under the line that is stored for its
--- client, since it is to the event's own call or to one that waits.
+-- client, since it answers the event's own call or one that waits.
 use Rattle.std.proofs.Common.{◌≡◌, ℕ, ◌<◌, List, [], ◌∷◌, ◌++◌}
 use Rattle.std.proofs.Common.{refl, sym, ap, ◌∙◌, subst, arith}
 use Rattle.pt_model.specs.declared.entry.Entry.{Entry}
@@ -34,7 +34,7 @@ use Rattle.pt_engine.proofs.Opened.{goes_on, legal_follow, legal_next, legal_ope
 use Rattle.pt_engine.proofs.Opened.{opened_by, same_start}
 use Rattle.pt_engine.proofs.Texts.{same_text}
 
--- before the first line
+-- what contracts see of a core before the first line
 abbrev empty : Kept
 empty = record { start = nothing; entries = []; limit = entries_between_seals }
 
@@ -49,7 +49,7 @@ begun_lines core asked calls is none noted =
     subst (λ k. AreLines asked calls (past k)) (sym is)
     (rw (none, noted) (record { fresh = λ j far. refl; stored = λ w i. absurd i }))
 
--- a seal has calls that were open
+-- the open calls of a seal were open before it
 lines_sealed : (asked calls : List (ℕ × LineId)) (h : History) → AreLines asked calls h
     → AreLines asked calls (Begin (seal h))
 lines_sealed asked calls h are = record {
@@ -63,7 +63,7 @@ lines_opened asked calls core v are =
     opened_by (λ k. AreLines asked calls (past k)) core v (λ e. are)
     (λ e. lines_sealed asked calls (past core) are)
 
--- an event that is applied to a core, which is sealed already if the event needs that
+-- an event that is applied to a core; if the event needs a seal, the core is already sealed
 module _ (core next : Kept) (v : Event) (a : Applied) (l : IsLegal core)
     (applied : IsWritten core v next a) where
   abbrev h : History
@@ -97,7 +97,7 @@ module _ (core next : Kept) (v : Event) (a : Applied) (l : IsLegal core)
       let same = ap (λ (s : Start). place (behind s next.entries)) applied.writes.starts in
       omega (arith, more, same)
 
-  -- each call that is answered, or stays open, has its line
+  -- each call that is answered or stays open has its line
   have_lines : (asked calls : List (ℕ × LineId)) (line : LineId) → AreLines asked calls h
       → Each (IsOfCall (HasLine h v line asked calls)) (replies_from h (x ∷ fs))
       × IsForOpen (HasLine h v line asked calls) (past next)
@@ -141,7 +141,7 @@ module _ (core next : Kept) (v : Event) (a : Applied) (l : IsLegal core)
       ))
       (replies_from h (x ∷ fs)) (have_lines asked calls line are).0))
 
--- an event that is accepted by a core, of which the line is noted and stored
+-- an event that is accepted by a core, and whose line is noted and stored
 module _ (core next : Kept) (v : Event) (a : Applied) (is : IsSound core)
     (done : IsApplied core v next a) (asked stored calls noted : List (ℕ × LineId))
     (line : LineId) (m : Mark) (are : AreLines asked calls (past core)) (marks : m ≡ mark_of v)
@@ -163,7 +163,7 @@ module _ (core next : Kept) (v : Event) (a : Applied) (is : IsSound core)
       ∙ ap (λ n. calls_marked (mark_of v) line n calls) done.written.first
       ∙ calls_as v line (place (past (opened core v))) calls
 
-  -- what a core and the lines keep
+  -- what stays true of the core and the lines
   pub kept_lines : IsSound next × AreLines stored noted (past next)
   kept_lines = (
     record {
@@ -174,7 +174,7 @@ module _ (core next : Kept) (v : Event) (a : Applied) (is : IsSound core)
         asks all,
   )
 
-  -- its answers were appended under the lines of their calls
+  -- the answers were appended under the lines of their calls
   pub told_alike : (out told : List ℕ)
       → told ≡ out ++ latest_text (own_first m line stored)
       (answers_behind next.start a.first next.entries)

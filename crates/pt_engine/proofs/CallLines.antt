@@ -1,4 +1,4 @@
--- The line that made a call is found at its place, once it is noted.
+-- The line that made a call is found at its place after it is noted.
 use Rattle.std.proofs.Common.{◌≡◌, ℕ, true, cond, List, Some, None, nat_eq, ap, ◌∙◌, arith}
 use Rattle.std.proofs.lemmas.Bool.Decides.{nat_tests}
 use Rattle.std.specs.Option.{option_or}
@@ -9,7 +9,7 @@ use Rattle.pt_engine.specs.declared.line_id.LineId.{LineId}
 use Rattle.pt_engine.specs.Scripts.{calls_with, line_at}
 use Rattle.pt_engine.proofs.Counted.{lookup_push}
 
--- a line is found, once more are noted
+-- a line is still found after more are noted
 pub line_on : (v : Event) (line found : LineId) (place j : ℕ) (calls : List (ℕ × LineId))
     → line_at calls j ≡ Some found → line_at (calls_with v line place calls) j ≡ Some found
 line_on (event.Call c call) line found place j calls is =
@@ -17,7 +17,7 @@ line_on (event.Call c call) line found place j calls is =
     ∙ ap (λ o. option_or o (cond (nat_eq j place) (Some line) None)) is
 line_on _ line found place j calls is = is
 
--- the line that is noted now
+-- the line that is noted last is found
 pub line_here : (c : ℕ) (call : Asked) (line : LineId) (place : ℕ) (calls : List (ℕ × LineId))
     → line_at calls place ≡ None
     → line_at (calls_with (event.Call c call) line place calls) place ≡ Some line

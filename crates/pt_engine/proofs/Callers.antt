@@ -31,11 +31,11 @@ use Rattle.pt_model.proofs.Rising.{stood-seal}
 use Rattle.pt_model.proofs.Sound.{Below, Fresh-follows}
 use Rattle.pt_engine.proofs.Answered.{IsForAnswered, told_each}
 
--- the client of the call at a place, which came before this one
+-- the client of the call at a place below the next one
 abbrev pub IsCalled : History → ℕ → ℕ → Type 0
 IsCalled h j c = (caller h j ≡ Some c) × (j < place h)
 
--- an entry more leaves the callers of earlier calls
+-- one more entry leaves the callers of earlier calls unchanged
 pub called_on : (h : History) (e : Entry) (j c : ℕ) → IsCalled h j c → IsCalled (h ▷ e) j c
 called_on h (Call d call r) j c is =
     let below = is.1 in
@@ -48,14 +48,14 @@ pub called_onto : (h : History) (es : List Entry) (j c : ℕ) → IsCalled h j c
 called_onto h [] j c is = is
 called_onto h (e ∷ es) j c is = called_onto (h ▷ e) es j c (called_on h e j c is)
 
--- the call that comes is its client's
+-- the caller of a new call is its client
 pub called_here : (h : History) (c : ℕ) (call : Asked) (r : Option Outcome)
     → IsCalled (h ▷ Call c call r) (place h) c
 called_here h c call r =
     let same : (place h == place h) ≡ true = grind (arith, nat_tests) in
     (ap (λ b. cond b (Some c) (caller h (place h))) same, omega arith)
 
--- a call that it leaves waiting is its own
+-- a call that an effect leaves waiting is the client's own
 pub stands_own : (h : History) (c : ℕ) (E : Effect) → Allowed h c E → (w : WaitingCall)
     → In w (left_by E)
     → w.client ≡ c
@@ -70,7 +70,7 @@ stands_own h c (Mends m) a w i = absurd i
 stands_own h c (Returns r) a w i = absurd i
 stands_own h c (Wakes n all) a w i = absurd i
 
--- a call that stood is its client's
+-- the caller of each call that waited is its client
 abbrev AreCalled : History → Type 0
 AreCalled h = (w : WaitingCall) → In w (stood h) → IsCalled h w.place w.client
 
@@ -106,13 +106,13 @@ sealed_called h f w i =
           (Fresh-follows (Begin (seal h)) g).stood i).0,
     )
 
--- each call that stood is its client's
+-- the same for each call that waited, after any legal history
 pub stood_called : (h : History) → Follows h → AreCalled h
 stood_called h f =
     by_steps AreCalled (λ w i. absurd i) (λ h e f ih s. step_called h e ih s)
     (λ h f ih. sealed_called h f) h f
 
--- a call that is found is one of those
+-- a call that is found in a list occurs in it
 found_in : (j : ℕ) (ws : List WaitingCall) (w : WaitingCall) → at_place j ws ≡ Some w → In w ws
 found_in j [] w e = absurd cc
 found_in j (v ∷ vs) w e = go (v.place == j) e (found_in j vs w)
@@ -122,7 +122,7 @@ found_in j (v ∷ vs) w e = go (v.place == j) e (found_in j vs w)
     go true e later = let same : w ≡ v = cc in inl same
     go false e later = inr (later e)
 
--- who made a call that a seal has made it before
+-- the caller of a call in a seal was its caller before
 pub caller_sealed : (h : History) → Follows h → (j c : ℕ) → caller (Begin (seal h)) j ≡ Some c
     → caller h j ≡ Some c
 caller_sealed h f j c e = go (at_place j (stood (Begin (seal h)))) refl e
@@ -138,7 +138,7 @@ caller_sealed h f j c e = go (at_place j (stood (Begin (seal h)))) refl e
         subst (λ k. caller h k ≡ Some c) there
         ((stood_called h f w (stood_open h w i)).0 ∙ ap Some same)
 
--- an answer is its caller's
+-- an answer goes to its call's caller
 abbrev pub IsOwn : History → Told → Type 0
 IsOwn h t = IsCalled h t.place t.client
 
@@ -147,11 +147,11 @@ called_answered h (Call c call r) f = called_here h c call r
 called_answered h e f = λ w i.
     called_on h e w.place w.client (stood_called h f w (stood_open h w i))
 
--- so are all that an entry gives
+-- so does each answer that an entry gives
 told_own : (h : History) (e : Entry) → Follows h → Step h e → Each (IsOwn (h ▷ e)) (told h e)
 told_own h e f s = told_each (IsCalled (h ▷ e)) h e f s (called_answered h e f)
 
--- and all that these entries give
+-- so does each answer that these entries give
 pub replies_own : (h : History) (es : List Entry) → Follows (onto h es)
     → Each (IsOwn (onto h es)) (replies_from h es)
 replies_own h [] f = tt

@@ -1,4 +1,4 @@
--- What follows the entry of an event has no event.
+-- The entries that follow an event's entry have no event.
 use Rattle.std.proofs.Common.{◌≡◌, List, [], ◌∷◌, ◌++◌, length, drop, Option, Some, None, refl, sym}
 use Rattle.std.proofs.Common.{ap, ◌∙◌}
 use Rattle.std.proofs.Math.Seq.{drop-append_seam}
@@ -12,12 +12,12 @@ use Rattle.pt_model.specs.Legal.{LegalBehind, event_of, events_of}
 use Rattle.pt_model.specs.Room.{entry_for}
 use Rattle.pt_model.proofs.Legality.{events_of-legal}
 
--- no call comes by entries of no event
+-- if some entries have no event, neither have those after the first
 pub cons_none : (o : Option Event) (vs : List Event) → cons_option o vs ≡ [] → vs ≡ []
 cons_none None vs e = e
 cons_none (Some v) vs e = absurd cc
 
--- the event of what an event becomes is that event
+-- the event of the entry that an event becomes is that event
 event_back : (h : History) (v : Event) → event_of (entry_for h v) ≡ Some v
 event_back h (event.Call c call) = refl
 event_back h _ = refl
@@ -33,7 +33,7 @@ events_apart (x ∷ xs) ys =
     joins None us vs = refl
     joins (Some v) us vs = refl
 
--- what follows the entry of an event has no event
+-- the entries that follow an event's entry have no event
 pub none_forced : (s : Start) (old new fs : List Entry) (v : Event)
     → new ≡ old ++ entry_for (behind s old) v ∷ fs → LegalBehind s new (events_of old ++ v ∷ [])
     → events_of fs ≡ []

@@ -1,4 +1,4 @@
--- Keys: rows that are found by their keys, once one is written or added.
+-- Keys: rows that are found by their keys after one is written or added.
 use Rattle.std.proofs.Common.{◌≡◌, ℕ, suc, zero, Bool, true, false, cond, List, [], ◌∷◌, ◌++◌}
 use Rattle.std.proofs.Common.{Option, Some, None, Decides, length, refl, sym, ap, subst, ◌∙◌}
 use Rattle.std.proofs.Common.{◌<◌, ◌⊎◌, inl, inr, get_or, arith}
@@ -17,7 +17,7 @@ none_else None = refl
 none_else (Some x) = refl
 
 module _ {K V : Type 0} where
-  -- where a key is, is a place of the list
+  -- the index of a key is within the list
   pub key_within : (rows : List (K × V)) (i : ℕ) (key : K) → key_at rows i ≡ Some key
       → i < length rows
   key_within rows i key at = by (slice_get rows i) refl at
@@ -27,7 +27,7 @@ module _ {K V : Type 0} where
       by None is e = absurd cc
       by (Some row) is e = slice_get_within rows i row is
 
-  -- the row at a place that has this key
+  -- the row at an index has this key
   pub row_read : (rows : List (K × V)) (i : ℕ) (row : K × V) (key : K) → i < length rows
       → row ≡ get_or rows i row → row.0 ≡ key → slice_get rows i ≡ Some (key, row.1)
   row_read rows i row key below is same =
@@ -72,11 +72,11 @@ module _ {K : Type 0} (eq : K → K → Bool) (decides : (a b : K) → Decides (
       (Decides-like (eq b a) sym sym (decides b a))
 
 module _ {K V : Type 0} (eq : K → K → Bool) (decides : (a b : K) → Decides (eq a b) (a ≡ b)) where
-  -- no row of this key is at another place
+  -- no row with this key is at another index
   abbrev IsOnly : List (K × V) → ℕ → K → Type 0
   IsOnly rows i key = (j : ℕ) → key_at rows j ≡ Some key → j ≡ i
 
-  -- the row at a place is found by its key
+  -- the row at an index is found by its key
   lookup_at : (rows : List (K × V)) (i : ℕ) (key : K) (v : V)
       → slice_get rows i ≡ Some (key, v) → IsOnly rows i key → lookup (eq key) rows ≡ Some v
   lookup_at [] i key v at only = absurd cc
@@ -95,7 +95,7 @@ module _ {K V : Type 0} (eq : K → K → Bool) (decides : (a b : K) → Decides
           absurd (omega (arith, up))
       by false same rest = rest
 
-  -- a key that is at no place is not found
+  -- a key that is at no index is not found
   lookup_none : (rows : List (K × V)) (key : K) → ((i : ℕ) → key_at rows i ≡ Some key → ⊥)
       → lookup (eq key) rows ≡ None
   lookup_none [] key none = refl
@@ -134,7 +134,7 @@ module _ {K V : Type 0} (eq : K → K → Bool) (decides : (a b : K) → Decides
       by true here false same rest = refl
       by false here c same rest = rest
 
-  -- a row that is added of a key that had none
+  -- after a row is added whose key had none
   pub found_more : (rows : List (K × V)) (key : K) (v : V) → lookup (eq key) rows ≡ None
       → (q : K)
       → lookup (eq q) (rows ++ (key, v) ∷ []) ≡ cond (eq key q) (Some v) (lookup (eq q) rows)
@@ -156,17 +156,17 @@ module _ {K V : Type 0} (eq : K → K → Bool) (decides : (a b : K) → Decides
     only_at : (i : ℕ) (key : K) → key_at rows i ≡ Some key → IsOnly rows i key
     only_at i key at j there = same_Some j i (sym (are.all key j there) ∙ are.all key i at)
 
-    -- the row at a place is found by its key
+    -- the row at an index is found by its key
     pub placed : (i : ℕ) (key : K) (v : V) → slice_get rows i ≡ Some (key, v)
         → lookup (eq key) rows ≡ Some v
     placed i key v at = lookup_at rows i key v at (only_at i key (ap (option_map (λ e. e.0)) at))
 
-    -- a key with no place has no row
+    -- a key with no index has no row
     pub unplaced : (key : K) → lookup (eq key) places ≡ None → lookup (eq key) rows ≡ None
     unplaced key none =
         lookup_none rows key (λ i e. none-some i (sym none ∙ are.all key i e))
 
-    -- a row that is written at its key's place
+    -- after a row is written at its key's index
     placed_set : (i : ℕ) (key : K) (v : V) → key_at rows i ≡ Some key
         → ArePlaces eq (set rows i (key, v)) places
     placed_set i key v at = record {
@@ -178,7 +178,7 @@ module _ {K V : Type 0} (eq : K → K → Bool) (decides : (a b : K) → Decides
         → lookup (eq q) (set rows i (key, v)) ≡ cond (eq key q) (Some v) (lookup (eq q) rows)
     found_set i key v at = lookup-set rows i key v at (only_at i key at)
 
-    -- a row that is read at its key's place, and may be written there
+    -- a row that is read at its key's index, and may be written there
     module _ (i : ℕ) (key : K) (row : K × V) (at : key_at rows i ≡ Some key)
         (is : row ≡ get_or rows i row) where
       here : slice_get rows i ≡ Some row
@@ -200,7 +200,7 @@ module _ {K V : Type 0} (eq : K → K → Bool) (decides : (a b : K) → Decides
       found_write v q =
           ap (λ k. lookup (eq q) (set rows i (k, v))) own_key ∙ found_set i key v at q
 
-    -- a key with no row has no place
+    -- a key with no row has no index
     absent : (key : K) → lookup (eq key) rows ≡ None → (i : ℕ) → key_at rows i ≡ Some key → ⊥
     absent key none i at = by (slice_get rows i) refl at
       where
@@ -211,7 +211,7 @@ module _ {K V : Type 0} (eq : K → K → Bool) (decides : (a b : K) → Decides
             (sym none
             ∙ placed i key row.1 (is ∙ ap (λ k. Some (k, row.1)) (same_Some row.0 key e)))
 
-    -- a row of a key that has none is added, and its place noted
+    -- after a row is added for a key that had none, and its index is noted
     pub placed_more : (key : K) (v : V) (new : List (K × ℕ)) (n : ℕ)
         → lookup (eq key) rows ≡ None → n ≡ length rows
         → ((q : K) → lookup (eq q) new ≡ cond (eq key q) (Some n) (lookup (eq q) places))

@@ -17,23 +17,23 @@ use Rattle.pt_model.proofs.Opens.{left, was_open}
 use Rattle.pt_engine.proofs.Answered.{IsForAnswered, IsOfCall, told_each}
 use Rattle.pt_engine.proofs.Followers.{cons_none}
 
--- entries of no event begin with one of none
+-- if a list of entries has no event, its first entry has none
 none_first : (o : Option Event) (vs : List Event) → cons_option o vs ≡ [] → o ≡ None
 none_first None vs e = refl
 none_first (Some v) vs e = absurd cc
 
 module _ (P : ℕ → ℕ → Type 0) where
-  -- it holds of all open calls, by their places and clients
+  -- a statement about all open calls, by their places and clients
   abbrev pub IsForOpen : History → Type 0
   IsForOpen h = (w : WaitingCall) → In w (open_calls h) → P w.place w.client
 
-  -- those that an entry of no event answers were open
+  -- the calls that an entry with no event answers were open
   answered_quiet : (h : History) (e : Entry) → event_of e ≡ None → IsForOpen h
       → IsForAnswered P h e
   answered_quiet h (Call c call r) none all = absurd cc
   answered_quiet h e none all = all
 
-  -- and no other call is open after it
+  -- no other call is open after it
   open_quiet : (h : History) (e : Entry) → event_of e ≡ None → Follows h → Step h e
       → IsForOpen h → IsForOpen (h ▷ e)
   open_quiet h e none f s all w i = by e none (was_open h e f s w i)
@@ -57,7 +57,7 @@ module _ (P : ℕ → ℕ → Type 0) where
         later.1,
       )
 
-  -- the answers of an entry, and of those that follow it
+  -- the answers of an entry and of those that follow it
   pub event_each : (h : History) (e : Entry) (es : List Entry) → events_of es ≡ []
       → Follows (onto (h ▷ e) es) → IsForAnswered P h e → IsForOpen (h ▷ e)
       → Each (IsOfCall P) (replies_from h (e ∷ es)) × IsForOpen (onto (h ▷ e) es)

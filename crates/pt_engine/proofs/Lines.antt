@@ -1,4 +1,4 @@
--- What is answered of a line, once it is counted.
+-- What is written for a line after it is counted.
 use Rattle.std.proofs.Common.{◌≡◌, ℕ, suc, ◌++◌, List, Option, Result, Ok, Err, OnOk, refl, sym}
 use Rattle.std.proofs.Common.{ap, ◌∙◌, subst}
 use Rattle.pt_types.specs.declared.outcome.Refusal.{Refusal}
@@ -15,7 +15,7 @@ use Rattle.pt_engine.specs.Scripts.{Script, event_of_body, line_id, lines_of_who
 use Rattle.pt_engine.specs.Says.{Says, SaysTo, counted}
 use Rattle.pt_engine.specs.Engines.{Adds}
 
--- what a line asks for is the same, once it is counted
+-- what a line asks for is the same after it is counted
 event_counted : (s : Script) (who : Who) (body : Result ScriptBody Refusal)
     → event_of_body (counted s who) who body ≡ event_of_body s who body
 event_counted s who (Err r) = refl
@@ -29,7 +29,7 @@ event_counted s Star (Ok Die) = refl
 event_counted s Star (Ok (Tick clock t)) = refl
 event_counted s Unknown (Ok body) = refl
 
--- what is answered, if what the line asks for is read off after it was counted
+-- what is written, if the line's event is read off after the line was counted
 pub says_counted : (s mid next : Script) (line : ScriptLine) (number : ℕ)
     (asks : Result Event Refusal) (out told : List ℕ)
     → mid ≡ counted s line.who → number ≡ suc (lines_of_who s.seen line.who)
@@ -67,12 +67,12 @@ says_refused s line why out told grows = record {
   holds = (refl, refl);
 }
 
--- what follows where a call succeeds
+-- what follows if a call succeeds
 pub on_ok : {X E P Q : Type 0} (r : Result X E) → (P → Q) → OnOk r P → OnOk r Q
 on_ok (Ok x) f is = f is
 on_ok (Err e) f is = is
 
--- the same, of a line whose refusal is this one
+-- the same for a line with this refusal
 pub refused_as : {X E : Type 0} (r : Result X E) (s : Script) (line : LineId)
     (asks : Result Event Refusal) (why : Refusal) (out told : List ℕ) → asks ≡ Err why
     → OnOk r (told ≡ out ++ refusal_text line why) → OnOk r (Adds (SaysTo s line asks s) out told)

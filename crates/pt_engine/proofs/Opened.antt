@@ -1,4 +1,4 @@
--- The core to which an event's entries are added: what holds of a core, and of its seal.
+-- The core to which an event's entries are added: what holds of a core and of its seal.
 use Rattle.std.proofs.Common.{◌≡◌, Bool, true, false, cond, [], ◌∷◌, ◌++◌, None, refl, sym, ap, ◌∙◌}
 use Rattle.std.proofs.Common.{subst}
 use Rattle.pt_model.specs.declared.entry.Event.{Event}
@@ -21,7 +21,8 @@ use Rattle.pt_legal.specs.Applying.{Writes, opened}
 use Rattle.pt_legal.specs.Sealing.{sealed}
 use Rattle.pt_engine.specs.Engines.{IsLegal}
 
--- what holds of a core for which no seal is needed, and of its seal if one is
+-- what holds of a core that needs no seal, and of its seal if it needs one, holds of the opened
+-- core
 pub opened_by : (P : Kept → Type 0) (core : Kept) (v : Event)
     → (needs_seal core.limit (past core) v ≡ false → P core)
     → (needs_seal core.limit (past core) v ≡ true → P (sealed core))
@@ -32,7 +33,7 @@ opened_by P core v same after = go (needs_seal core.limit (past core) v) refl
     go true needs = after needs
     go false none = same none
 
--- the next place is the same, and so is the limit
+-- the next place is unchanged, and so is the limit
 pub place_opened : (core : Kept) (v : Event)
     → place (past (opened core v)) ≡ place (past core)
 place_opened core v =
@@ -65,13 +66,13 @@ module _ (core : Kept) (l : IsLegal core) where
   legal_opened v = opened_by IsLegal core v (λ e. l) (λ e. legal_sealed)
 
 module _ (core next : Kept) (v : Event) (a : Writes core v next) where
-  -- the Start stays
+  -- the Start is unchanged
   pub same_start : LegalBehind core.start next.entries (events_of core.entries ++ v ∷ [])
   same_start =
       subst (λ (s : Start). LegalBehind s next.entries (events_of core.entries ++ v ∷ [])) a.starts
       a.legal
 
-  -- the history is the old one, and then the new entries
+  -- the history is the old one followed by the new entries
   pub longer : past next ≡ onto (past core ▷ entry_for (past core) v) a.extends.0
   longer =
       ap (λ (s : Start). behind s next.entries) a.starts
@@ -82,7 +83,7 @@ module _ (core next : Kept) (v : Event) (a : Writes core v next) where
   pub goes_on : IsLegal core → GoesOn core.start core.entries v next.entries
   goes_on l = record { starts = l.starts; extends = a.extends; legal = same_start }
 
-  -- and its entries are the one legal list again
+  -- the entries are the one legal list again
   pub legal_next : IsLegal core → IsLegal next
   legal_next l =
       record {

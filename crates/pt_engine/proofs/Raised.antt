@@ -1,4 +1,4 @@
--- What is counted, once one line more came.
+-- What is counted after one more line came.
 use Rattle.std.proofs.Common.{◌≡◌, ℕ, suc, ◌+◌, ◌<◌, cond, List, [], ◌∷◌, ◌++◌}
 use Rattle.std.proofs.Common.{length, sym, ap, subst, ◌∙◌, arith}
 use Rattle.std.proofs.Common.{length-append, ◌^◌, Fits, w64}

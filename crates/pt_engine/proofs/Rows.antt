@@ -1,4 +1,4 @@
--- Rows of names, after one that was written.
+-- Rows of names after one was written.
 use Rattle.std.proofs.Common.{◌≡◌, ℕ, suc, ◌<◌, Bool, true, false, cond, List, [], ◌∷◌, ◌++◌}
 use Rattle.std.proofs.Common.{Option, Some, None, IsSome, refl, sym, ap, ◌∙◌, arith, rules}
 use Rattle.std.specs.Option.{option_or}
@@ -13,7 +13,7 @@ use Rattle.pt_engine.specs.Names.{lines_counted, AreAlike, AreCounted, IsGiven, 
 use Rattle.pt_engine.proofs.Counted.{ap_cond, lookup_push}
 use Rattle.pt_engine.proofs.Keys.{either_way, none_else}
 
--- the name's row is this one, and each other row is as it was
+-- the name's row is this one, and all other rows are unchanged
 abbrev pub IsSet : List (List ℕ × Row) → List ℕ → Row → List (List ℕ × Row) → Type 0
 IsSet old name row new =
     (other : List ℕ) → row_of new other ≡ cond (bytes_eq name other) (Some row) (row_of old other)
@@ -28,7 +28,7 @@ keep_or : {X : Type 0} (f : List ℕ → X) (s : X → X) (name other : List ℕ
 keep_or f s name other true same = ap (λ n. s (f n)) (same refl)
 keep_or f s name other false same = refl
 
--- the rows of what is counted, once a name's row is set
+-- what is counted after a name's row is set
 module _ (old : Counted) (rows : List (List ℕ × Row)) (name : List ℕ) (row : Row)
     (set : IsSet old.rows name row rows) where
   set_by : {X : Type 0} (f : Option Row → X) (other : List ℕ)
@@ -45,7 +45,7 @@ module _ (old : Counted) (rows : List (List ℕ × Row)) (name : List ℕ) (row 
       ∙ keep (λ n. f (row_of old.rows n)) name other (bytes_eq name other)
       (bytes_eq-Decides name other).0
 
-  -- one line more of the name
+  -- one more line of the name
   pub row_raised : row.lines ≡ suc (lines_in (row_of old.rows name))
       → row.client ≡ client_in (row_of old.rows name)
       → IsRaised old (Named name) (record old { rows = rows })
@@ -62,7 +62,7 @@ module _ (old : Counted) (rows : List (List ℕ × Row)) (name : List ℕ) (row 
       by Star = refl
       by Unknown = refl
 
-  -- a row of no line where there was none
+  -- a new row with no line for a name that had none
   pub begun_alike : row_of old.rows name ≡ None → row.lines ≡ 0 → row.client ≡ None
       → AreAlike old (record old { rows = rows })
   begun_alike none no_line no_client = record {
@@ -90,12 +90,12 @@ module _ (old : Counted) (rows : List (List ℕ × Row)) (name : List ℕ) (row 
       by Star = refl
       by Unknown = refl
 
--- a name of which a line came has a row
+-- a name with at least one line has a row
 pub has_row : (r : Option Row) → 0 < lines_in r → IsSome r
 has_row None some = absurd (omega arith)
 has_row (Some row) some = search rules
 
--- what is counted, once a client has joined under a name for the first time
+-- what is counted after a client has joined under a name for the first time
 pub joined_counted : (old new : Counted) (total : ℕ) (known : Known) (name : List ℕ) (c : ℕ)
     → AreCounted old total known → IsGiven old name c new → number_named known.clients name ≡ None
     → AreCounted new total (record known { clients = known.clients ++ (name, c) ∷ [] })
@@ -119,7 +119,7 @@ joined_counted old new total known name c counted given first = record {
         (sym (ap (number_named known.clients) (sym (same refl)) ∙ first))
     by other false same = sym (none_else (number_named known.clients other))
 
--- the number of a client, by what is counted
+-- the number of a client, read off what is counted
 pub client_known : (k : Counted) (total : ℕ) (known : Known) → AreCounted k total known
     → (who : Who) → client_counted k who ≡ number_of known.clients who
 client_known k total known are (Named name) = are.joined name

@@ -1,4 +1,4 @@
--- Lines one after the other: what is said of them, and how many they are.
+-- Lines one after another: what is written for them, and how many there are.
 use Rattle.std.proofs.Common.{◌≡◌, ℕ, ◌+◌, List, [], ◌∷◌, ◌++◌, length, map, Result, Ok, Err, refl}
 use Rattle.std.proofs.Common.{sym, ap, subst, ◌∙◌, append_assoc, append-nil, length-append, arith}
 use Rattle.std.proofs.lemmas.List.{map-append}
@@ -19,7 +19,7 @@ pub says_one : (s : Script) (line : ScriptLine) (next : Script) (text : List ℕ
     → Says s line next text → SaysAll s (line ∷ []) next text
 says_one s line next text says = (next, text, [], says, (refl, refl), sym (append-nil text))
 
--- some lines, and then more
+-- some lines, followed by more
 pub says_join : (s : Script) (xs : List ScriptLine) (mid : Script) (text : List ℕ)
     (ys : List ScriptLine) (last : Script) (more : List ℕ)
     → SaysAll s xs mid text → SaysAll mid ys last more → SaysAll s (xs ++ ys) last (text ++ more)
@@ -46,7 +46,7 @@ seen_to : (s : Script) (line : LineId) (r : Result Event Refusal) (next : Script
 seen_to s line (Err why) next text says = ap (λ n. n.seen) says.0
 seen_to s line (Ok v) next text says = seen_of s v line next text says
 
--- one line more was seen
+-- one more line was seen
 pub says_seen : (s : Script) (line : ScriptLine) (next : Script) (text : List ℕ)
     → Says s line next text → length next.seen ≡ length s.seen + 1
 says_seen s line next text says =
@@ -54,7 +54,7 @@ says_seen s line next text says =
     (seen_to (counted s line.who) (line_id s line.who) (event_of_line s line) next text says)
     ∙ length-append s.seen (line.who ∷ [])
 
--- as many more as there are
+-- as many more lines were seen as there are in the list
 pub says_all_seen : (s : Script) (xs : List ScriptLine) (last : Script) (text : List ℕ)
     → SaysAll s xs last text → length last.seen ≡ length s.seen + length xs
 says_all_seen s [] last text says = ap (λ n. length n.seen) says.0 ∙ omega arith
@@ -71,7 +71,7 @@ answers_none held s out = record {
   answered = record { text = []; says = (refl, refl); grows = sym (append-nil out) };
 }
 
--- one line more
+-- one more line
 pub answers_one : (held : Held) (s : Script) (out : List ℕ) (mid : Held) (t : Script)
     (text : List ℕ) (next : Held) (last : Script) (new : List ℕ) (cut : Cut)
     → Answers held s out mid t text → ((more : List ℕ) → to_come mid more ≡ cut ∷ to_come next more)
@@ -96,7 +96,7 @@ answers_one held s out mid t text next last new cut before gives adds = record {
   };
 }
 
--- one line more, as it was read
+-- one more line, as it was read
 pub answers_next : (held : Held) (s : Script) (out : List ℕ) (mid : Held) (t : Script)
     (text : List ℕ) (next : Held) (last : Script) (new : List ℕ) (line : ScriptLine)
     → Answers held s out mid t text → IsNextScriptLine mid line next
@@ -105,7 +105,7 @@ answers_next held s out mid t text next last new line before gives adds =
     answers_one held s out mid t text next last new gives.cut before gives.given
     (subst (λ l. Adds (Says t l last) text new) gives.read adds)
 
--- no line more
+-- no more line
 pub answers_same : (held : Held) (s : Script) (out : List ℕ) (mid next : Held) (last : Script)
     (new : List ℕ) → Answers held s out mid last new
     → ((more : List ℕ) → to_come mid more ≡ to_come next more)
@@ -116,7 +116,7 @@ answers_same held s out mid next last new before same = record {
   answered = before.answered;
 }
 
--- some lines, and then more
+-- some lines, followed by more
 pub answers_join : (held : Held) (s : Script) (out : List ℕ) (mid : Held) (t : Script)
     (text : List ℕ) (next : Held) (last : Script) (new : List ℕ)
     → Answers held s out mid t text → Answers mid t text next last new
@@ -142,7 +142,7 @@ answers_join held s out mid t text next last new before after = record {
   };
 }
 
--- how many lines remain
+-- the number of lines that remain
 pub answers_few : (held : Held) (s : Script) (out : List ℕ) (next : Held) (last : Script)
     (new : List ℕ) → Answers held s out next last new
     → length last.seen + length (to_come next []) ≡ length s.seen + length (to_come held [])
@@ -152,7 +152,7 @@ answers_few held s out next last new a =
     let all = ap length (a.given []) ∙ length-append a.cuts (to_come next []) in
     omega (arith, seen, same, all)
 
--- a last line
+-- with a last line
 pub last_some : (s : Script) (cuts : List Cut) (cut : Cut) (old : List ℕ) (last : Script)
     (new : List ℕ) → cuts ≡ cut ∷ [] → Adds (Says s (script_of cut) last) old new
     → IsAnswered s cuts old last new
@@ -164,7 +164,7 @@ last_some s cuts cut old last new is adds = record {
   grows = adds.grows;
 }
 
--- no last line
+-- without a last line
 pub last_none : (s : Script) (cuts : List Cut) (out : List ℕ) → cuts ≡ []
     → IsAnswered s cuts out s out
 last_none s cuts out is = record {

@@ -1,4 +1,4 @@
--- What holds of an engine whose core, and the lines that it stores, are as they were.
+-- What holds of an engine whose core and stored lines are unchanged.
 use Rattle.std.proofs.Common.{◌≡◌, ℕ, List, [], sym, ap, subst, ◌∙◌}
 use Rattle.pt_model.specs.Starts.{nothing}
 use Rattle.pt_legal.specs.Cores.{Kept, Seen, past, shown}

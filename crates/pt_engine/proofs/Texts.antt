@@ -14,7 +14,7 @@ pub latest_next : (asked : List (ℕ × LineId)) (out : List ℕ) (t : Told) (ts
     ≡ (out ++ told_line (latest_line asked t.client) t.outcome) ++ latest_text asked ts
 latest_next asked out t ts = sym (append_assoc out _ (latest_text asked ts))
 
--- answers are under the lines of their calls, if those are the ones that are stored
+-- answers are under the lines of their calls if those are the stored lines
 pub same_text : (asked calls : List (ℕ × LineId)) (ts : List Told)
     → Each (λ t. IsLineOf asked calls t.client t.place) ts
     → latest_text asked ts ≡ told_text calls ts
@@ -24,6 +24,6 @@ same_text asked calls (t ∷ ts) each =
     ∙ ap (λ xs. told_line (line_at calls t.place) t.outcome ++ xs)
     (same_text asked calls ts each.1)
 
--- one answer less is left
+-- one answer fewer remains
 pub fewer : {X : Type 0} (xs ys : List X) (x : X) → xs ≡ x ∷ ys → length ys < length xs
 fewer xs ys x is = let more = ap length is in omega (arith, more)

@@ -1,4 +1,4 @@
--- The line of a call that is open after an event's entry is the event's own, or is stored.
+-- The line of a call that is open after an event's entry is the event's own line, or is stored.
 use Rattle.std.proofs.Common.{◌≡◌, ℕ, ◌==◌, ◌⊎◌, inl, inr, Bool, true, false, cond, List, ◌∷◌}
 use Rattle.std.proofs.Common.{Option, Some, None, refl, sym, ap, ◌∙◌, subst, arith, eq-eqb}
 use Rattle.std.proofs.lemmas.Bool.Decides.{nat_tests}
@@ -30,7 +30,7 @@ use Rattle.pt_engine.proofs.Answered.{IsForAnswered}
 use Rattle.pt_engine.proofs.Callers.{stands_own}
 use Rattle.pt_engine.proofs.CallLines.{line_here, line_on}
 
--- the client of a call had no open one
+-- the client of a call had no open call
 abbrev IsFree : History → Entry → Type 0
 IsFree h (entry.Call c call r) = open_place h c ≡ None
 IsFree h _ = Unit {0}
@@ -42,7 +42,7 @@ free h _ s = tt
 same_sym : (m n : ℕ) → (m == n) ≡ (n == m)
 same_sym m n = grind (arith, nat_tests)
 
--- the line that was stored is the same with the event's own before it, if that stores it too
+-- with the event's own line put first, the stored lines are the same before and after it is stored
 pub own_same : (o : Option Outcome) (v : Event) (line : LineId) (asked stored : List (ℕ × LineId))
     → IsAsked o (mark_of v) line asked stored → (c : ℕ)
     → latest_line (own_first (mark_of v) line stored) c
@@ -77,7 +77,8 @@ HasLine h v line asked lines j c =
     IsLineOf (own_first (mark_of v) line asked) (calls_with v line (place h) lines) c j
     × (IsLineOf asked (calls_with v line (place h) lines) c j ⊎ (j ≡ place h))
 
--- it is stored, after an event whose call has this answer by then
+-- the line of a call that is open after the event is stored, whether or not the event's own call is
+-- answered
 pub stored_line : (o : Option Outcome) (h after : History) (v : Event) (line : LineId)
     (asked stored lines : List (ℕ × LineId)) (w : WaitingCall)
     → o ≡ told_at_once v after (place h) → IsAsked o (mark_of v) line asked stored
@@ -105,7 +106,7 @@ stored_line (Some x) h after (event.Death d) line asked stored lines w told sets
 stored_line (Some x) h after (event.Moment k t) line asked stored lines w told sets i has =
     subst (λ rows. IsLineOf rows lines w.client w.place) (sym sets) has.0
 
--- an event's entry after a history, of which the lines of open lines are stored
+-- an event's entry after a history whose open calls have stored lines
 module _ (h : History) (line : LineId) (asked lines : List (ℕ × LineId))
     (are : AreLines asked lines h) where
   -- a call that was open has its line
@@ -142,7 +143,7 @@ module _ (h : History) (line : LineId) (asked lines : List (ℕ × LineId))
         inl (is.0, (is.1.0, line_on v line is.0 (place h) w.place lines is.1.1)),
       )
 
-  -- and so has the event's own
+  -- so has the event's own call
   here_has : (d : ℕ) (call : Asked) → HasLine h (event.Call d call) line asked lines (place h) d
   here_has d call = (
     (
@@ -168,7 +169,7 @@ module _ (h : History) (line : LineId) (asked lines : List (ℕ × LineId))
   own_has (event.Death d) w i = absurd i
   own_has (event.Moment k t) w i = absurd i
 
-  -- so have all that are open after the entry
+  -- so have all calls that are open after the entry
   pub open_has : (v : Event) → Follows h → Step h (entry_for h v) → (w : WaitingCall)
       → In w (open_calls (h ▷ entry_for h v)) → HasLine h v line asked lines w.place w.client
   open_has v follows step w i = by (was_open h (entry_for h v) follows step w i)
@@ -178,7 +179,7 @@ module _ (h : History) (line : LineId) (asked lines : List (ℕ × LineId))
       by (inl old) = old_has v step w old
       by (inr own) = own_has v w own
 
-  -- and all that it answers
+  -- so have all calls that the entry answers
   pub answered_has : (v : Event) → Step h (entry_for h v)
       → IsForAnswered (HasLine h v line asked lines) h (entry_for h v)
   answered_has (event.Call d call) step = here_has d call

@@ -1,4 +1,4 @@
--- `Turns::refuses_next` at a call: what it is handed, and what its caller has of it.
+-- `Turns::refuses_next` at a call: what it is handed, and what its caller gets from it.
 use Rattle.std.proofs.Common.{◌≡◌, ℕ, Bool, List, [], ◌∷◌, refl, ap}
 use seplogic.Ra.Ura.{Ura}
 use mir.Val.{Val, vbool, vptr}

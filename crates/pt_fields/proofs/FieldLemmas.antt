@@ -11,12 +11,12 @@ use Rattle.pt_fields.proofs.TestLemmas.{and_parts}
 pub not_space : (x : ℕ) → x ≢ 32 → (x == 32) ≡ false
 not_space x ne = grind arith
 
--- a byte that is no space goes into the first field
+-- a byte other than a space goes into the first field
 pub fields-other :
     (x : ℕ) (xs : List ℕ) → (x == 32) ≡ false → fields (x ∷ xs) ≡ push_first x (fields xs)
 fields-other x xs ne = ap (λ b. cond b ([] ∷ fields xs) (push_first x (fields xs))) ne
 
--- up to the first space
+-- the first field ends at the first space
 fields-at :
     (xs : List ℕ) (i : ℕ) → i < length xs → get_or xs i 0 ≡ 32
     → ((k : ℕ) → k < i → get_or xs k 0 ≢ 32)
@@ -32,7 +32,7 @@ fields-at (x ∷ xs) (suc i) lt here before =
     ∙ ap (push_first x) rest
     ∙ ap (λ ys. (x ∷ take i xs) ∷ fields ys) same
 
--- with no space
+-- a text with no space is its only field
 fields-one :
     (xs : List ℕ) → ((k : ℕ) → k < length xs → get_or xs k 0 ≢ 32) → fields xs ≡ xs ∷ []
 fields-one [] none = refl
@@ -40,7 +40,7 @@ fields-one (x ∷ xs) none =
     fields-other x xs (not_space x (none 0 (omega arith)))
     ∙ ap (push_first x) (fields-one xs (λ k small. none (suc k) (omega arith)))
 
--- what memchr finds
+-- the first field ends at the space that memchr finds
 pub fields-found :
     (xs : List ℕ) (i : ℕ) → IsFirstByte (is_byte 32) xs (Some i)
     → fields xs ≡ take i xs ∷ fields (drop (i + 1) xs)
@@ -52,7 +52,7 @@ pub fields-none :
     (xs : List ℕ) → IsFirstByte (is_byte 32) xs None → fields xs ≡ xs ∷ []
 fields-none xs h = fields-one xs (λ k lt e. h k (omega arith) lt (eq-eqb (get_or xs k 0) 32 e))
 
--- whether a byte is no space
+-- whether a byte is not a space
 abbrev pub is_no_space : ℕ → Bool
 is_no_space b = not (b == 32)
 
@@ -76,7 +76,7 @@ no_space_is x h = by (x == 32) h
     by true h = sym h
     by false h = refl
 
--- a word and a space
+-- a word with a space after it is the first field
 pub fields-word :
     (word rest : List ℕ) → is_word word ≡ true
     → fields (word ++ 32 ∷ rest) ≡ word ∷ fields rest
@@ -93,7 +93,7 @@ fields-last (x ∷ word) h =
     fields-other x (word ++ []) (no_space_is x parts.0)
     ∙ ap (push_first x) (fields-last word parts.1)
 
--- words parted by single spaces are the fields
+-- words separated by single spaces are the fields
 pub fields-spaced :
     (word : List ℕ) (words : List (List ℕ)) → is_word word ≡ true → AreWords words
     → fields (spaced word words) ≡ word ∷ words
@@ -102,7 +102,7 @@ fields-spaced word (next ∷ words) h all =
     fields-word word (spaced next words) h
     ∙ ap (λ ws. word ∷ ws) (fields-spaced next words all.0 all.1)
 
--- fields with a space between each two
+-- fields joined with single spaces
 abbrev together : List (List ℕ) → List ℕ
 together [] = []
 together (word ∷ words) = spaced word words
@@ -128,7 +128,7 @@ behind-fields (b ∷ bytes) = by (b == 32)
     by true = refl
     by false = behind-push b (fields bytes)
 
--- a text is its fields with a space between each two
+-- a text is its fields, joined with single spaces
 together-fields : (text : List ℕ) → together (fields text) ≡ text
 together-fields [] = refl
 together-fields (b ∷ bytes) = by (together-fields bytes) (b == 32) refl

@@ -1,4 +1,4 @@
--- LaneLemmas: a byte among lanes, and among the first of more bytes.
+-- LaneLemmas: a byte that is searched for in lanes, and in the first bytes of a text.
 use Rattle.std.proofs.Common.{◌≡◌, ◌≢◌, ◌<◌, ◌≤◌, ◌%◌, ◌^◌, ◌∙◌, ◌⊎◌, ◌||◌, ◌==◌, ℕ, Bool, true}
 use Rattle.std.proofs.Common.{false, not, cond}
 use Rattle.std.proofs.Common.{List, length, take, get_or, map, refl, ap, sym, arith, inl, inr}
@@ -19,7 +19,7 @@ use Rattle.std.specs.Simd.Lanes.{mask_l}
 use Rattle.memchr.specs.Find.{IsFirstByte, Nowhere, Passes, is_byte}
 use lib.Lanes.{top}
 
--- the mask of a byte among some bytes
+-- the mask of the lanes that hold a byte
 abbrev pub mask_of : ℕ → List ℕ → ℕ
 mask_of b xs = mask_l (map (is_byte b) xs)
 
@@ -52,7 +52,7 @@ within b xs k other h = by (cases_lt k (length xs))
         false_is : false ≡ true → ⊥
         false_is e = cc
 
--- no bit is set where the byte is nowhere
+-- if no bit is set, the byte does not occur
 pub byte_nowhere :
     (b : ℕ) (xs : List ℕ) → is_byte b 0 ≡ false → mask_of b xs ≡ 0
     → IsFirstByte (is_byte b) xs None
@@ -60,7 +60,7 @@ byte_nowhere b xs other none k low high e =
     unset_is (is_byte b (get_or xs k 0))
     (sym (bit_is b xs k other) ∙ ap (λ m. bit_at m k) none ∙ bit_at-zero k) e
 
--- the lowest bit is the first such byte
+-- the lowest set bit is that of the first such byte
 byte_lowest :
     (b : ℕ) (xs : List ℕ) (k : ℕ) → is_byte b 0 ≡ false → bit_at (mask_of b xs) k ≡ 1
     → ((j : ℕ) → j < k → bit_at (mask_of b xs) j ≡ 0) → IsFirstByte (is_byte b) xs (Some k)
@@ -86,7 +86,7 @@ byte_first b xs other long some =
     let h = bit_at-trailing_zeros w64 (mask_of b xs) (omega (arith, some)) fits in
     byte_lowest b xs (trailing_zeros w64 (mask_of b xs)) other h.1 h.2
 
--- what is found in the first n bytes is found in all
+-- a byte that is found among the first n is the first among all
 pub first_of_front :
     (b : ℕ) (xs : List ℕ) (n k : ℕ) → IsFirstByte (is_byte b) (take n xs) (Some k)
     → IsFirstByte (is_byte b) xs (Some k)
@@ -102,7 +102,7 @@ first_of_front b xs n k h =
       sym (ap (is_byte b) (get_or-take n xs k 0 small)) ∙ h.1,
     )
 
--- where none is found in the first n bytes, there is none before n
+-- if none is found among the first n bytes, there is none before index n
 pub none_in_front :
     (b : ℕ) (xs : List ℕ) (n : ℕ) → n ≤ length xs → IsFirstByte (is_byte b) (take n xs) None
     → Nowhere (Passes (is_byte b) xs) 0 n
@@ -110,12 +110,12 @@ none_in_front b xs n le h k low lt e =
     h k low (omega (arith, length-take-le n xs le))
     (ap (is_byte b) (get_or-take n xs k 0 lt) ∙ e)
 
--- the place of the lowest bit that is set, or n
+-- the index of the lowest set bit, or n
 abbrev pub lowest : ℕ → ℕ → ℕ
 lowest n mask = cond (mask == 0) n (trailing_zeros w64 mask)
 
--- before the first lane of a load that stops each byte passes, if each whose lane does not stop
--- does
+-- each byte before the first lane of a load that stops passes, if every byte does whose lane does
+-- not stop
 pub front_passes :
     (q : ℕ → Bool) (bytes z : List ℕ) (n r : ℕ) → n ≤ length bytes → n ≤ 64
     → ((k : ℕ) → Fits w8 (get_or bytes k 0))

@@ -1,8 +1,8 @@
--- TestLemmas: tests, and options that are some
+-- TestLemmas: tests, and options that have a value
 pub mod TestLemmas
 -- FieldLemmas: a text and its fields
 pub mod FieldLemmas
 -- NumberLemmas: numbers and their decimals
 pub mod NumberLemmas
--- LaneLemmas: a byte among lanes, and among the first of more bytes
+-- LaneLemmas: a byte that is searched for in lanes, and in the first bytes of a text
 pub mod LaneLemmas

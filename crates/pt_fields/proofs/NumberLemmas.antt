@@ -21,7 +21,7 @@ use Rattle.pt_fields.proofs.TestLemmas.{some_inj, and_parts, and_true}
 own : IsNumeralModel (λ ds. list_all is_digit ds ≡ true) (digits_value 10)
 own = numerals_by_value _ (search rules)
 
--- what is read before the last of ten digits is small
+-- the value of the digits before the last of up to ten is small
 pub value_small :
     (ds : List ℕ) (i : ℕ) → list_all is_digit (take i ds) ≡ true → length ds ≤ 10
     → i < length ds → digits_value 10 (take i ds) < 10 ^ 9
@@ -91,7 +91,7 @@ big n h = omega arith
 pub length-decimal : (n : ℕ) → IsNumber n → length (decimal n) ≤ 10
 length-decimal n h = length-decimal-le 10 n (omega arith) h (big n h)
 
--- what is printed of a number is one
+-- the decimal of a number spells a number
 is_number-decimal : (n : ℕ) → IsNumber n → is_number (decimal n) ≡ true
 is_number-decimal n h =
     let some = decimal_nonempty n (big n h) in
@@ -106,7 +106,7 @@ number_of-decimal n h =
     ap (λ b. cond b (Some (digits_value 10 (decimal n))) None) (is_number-decimal n h)
     ∙ ap Some (digits_value-decimal own n (big n h))
 
--- what a field that is a number has
+-- what holds of a field that spells a number
 record IsNumberField (field : List ℕ) : Type 0 where
   some : 0 < length field
   short : length field ≤ 10
@@ -140,7 +140,7 @@ not_number field never =
     by true n never = absurd (never refl)
     by false n never = refl
 
--- no byte and more than ten bytes are no number
+-- neither an empty field nor one of more than ten bytes spells a number
 pub not_number-length :
     (field : List ℕ) (empty : Bool) → empty ≡ (length field == 0)
     → (empty ≡ true) ⊎ ((empty ≡ false) × (10 < length field)) → None ≡ number_of field
@@ -150,7 +150,7 @@ not_number-length field empty is (inl none) =
 not_number-length field empty is (inr long) =
     not_number field (λ parts. omega (arith, long.1, parts.short))
 
--- nor is more than one byte, of which the first is a zero
+-- nor does a field of two or more bytes if the first is a zero
 pub not_number-zero :
     (field : List ℕ) → 1 < length field → get_or field 0 0 ≡ 48 → None ≡ number_of field
 not_number-zero field more first =
@@ -164,14 +164,14 @@ digit_at (d ∷ ds) zero lt h = (and_parts (is_digit d) (list_all is_digit ds) h
 digit_at (d ∷ ds) (suc i) lt h =
     digit_at ds i (omega arith) (and_parts (is_digit d) (list_all is_digit ds) h).1
 
--- nor is a field with a byte that is no digit
+-- nor does a field with a byte that is not a digit
 pub not_number-digit :
     (field : List ℕ) (i : ℕ) → i < length field → false ≡ is_digit (get_or field i 0)
     → None ≡ number_of field
 not_number-digit field i lt other =
     not_number field (λ parts. false≢true (other ∙ digit_at field i lt parts.digits))
 
--- the digits of a field are its number
+-- the number of a field is the value of its digits
 pub number_of-digits :
     (field : List ℕ) (n i : ℕ) → length field ≤ i → false ≡ (length field == 0)
     → length field ≤ 10
@@ -195,7 +195,7 @@ number_of-digits field n i le some short alone digits value =
     test pos (inl one) = grind arith
     test pos (inr other) = grind arith
 
--- a field that is a number is what is printed of it
+-- a field that spells a number is the decimal of that number
 pub decimal-number_of :
     (field : List ℕ) (n : ℕ) → number_of field ≡ Some n → (field ≡ decimal n) × IsNumber n
 decimal-number_of field n h = by (is_number field) refl h

@@ -1,4 +1,4 @@
--- TestLemmas: tests, and options that are some.
+-- TestLemmas: tests, and options that have a value.
 use Rattle.std.proofs.Common.{◌≡◌, ◌&&◌, Bool, true, false, cond, List, [], ◌∷◌, find, subst, refl}
 use Rattle.std.proofs.Common.{Option, None, Some}
 use Rattle.std.specs.Option.{option_map, option_and_then}

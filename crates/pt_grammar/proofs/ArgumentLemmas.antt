@@ -1,4 +1,4 @@
--- ArgumentLemmas: what fields are read as, and what is read again from its fields.
+-- ArgumentLemmas: what fields are read as, and what is read back from its fields.
 use Rattle.std.proofs.Common.{◌≡◌, ◌<◌, ◌≤◌, ◌∙◌, ◌&&◌, ◌==◌, ◌⊎◌, inl, inr, ℕ, Bool, true, false}
 use Rattle.std.proofs.Common.{cond, not, List, [], ◌∷◌, length, nat_le, nat_lt, refl, ap, sym}
 use Rattle.std.proofs.Common.{subst, arith, Option, None, Some, decimal, codes}
@@ -24,7 +24,7 @@ use Rattle.pt_fields.proofs.FieldLemmas.{is_no_space, is_word, is_short_word}
 use Rattle.pt_fields.proofs.NumberLemmas.{number_of-decimal, decimal-number_of}
 use Rattle.pt_fields.proofs.TestLemmas.{some_inj, and_parts, and_true, map_some, then_some}
 
--- one field
+-- exactly one field
 pub alone-some :
     {X : Type 0} (read : List ℕ → Option X) (args : List (List ℕ)) (x : X)
     → alone read args ≡ Some x → (field : List ℕ) × (args ≡ field ∷ []) × (read field ≡ Some x)
@@ -32,7 +32,7 @@ alone-some read [] x h = cc
 alone-some read (field ∷ []) x h = (field, refl, h)
 alone-some read (field ∷ other ∷ more) x h = cc
 
--- a field and more
+-- a field followed by others
 pub record IsFirstThen
     {X Y : Type 0} (first : List ℕ → Option X) (rest : List (List ℕ) → Option Y)
     (args : List (List ℕ)) (p : X × Y) : Type 0 where
@@ -67,7 +67,7 @@ first_then-again first rest field more x y e f =
     ap (λ o. option_and_then (λ a. option_map (λ b. (a, b)) (rest more)) o) e
     ∙ ap (λ o. option_map (λ b. (x, b)) o) f
 
--- names
+-- a name is read back
 pub name_again : (name : List ℕ) → IsName name → name_of name ≡ Some name
 name_again name h =
     let some = h.some in
@@ -123,7 +123,7 @@ bytes_are_word (x ∷ xs) h =
 pub name_is_word : (name : List ℕ) → IsName name → is_word name ≡ true
 name_is_word name h = bytes_are_word name h.bytes
 
--- one of a row of tests
+-- one in a series of tests
 cond_some :
     {X : Type 0} (b : Bool) (x y : X) (rest : Option X) → cond b (Some x) rest ≡ Some y
     → ((b ≡ true) × (x ≡ y)) ⊎ (rest ≡ Some y)
@@ -136,7 +136,7 @@ none_some h = cc
 pub bytes_are : (xs ys : List ℕ) → bytes_eq xs ys ≡ true → xs ≡ ys
 bytes_are xs ys h = (bytes_eq-Decides xs ys).0 h
 
--- kinds
+-- kinds of mutexes
 abbrev at_recursive : List ℕ → Option MutexKind
 at_recursive field = cond (bytes_eq field (codes "recursive")) (Some Recursive) None
 

@@ -1,4 +1,4 @@
--- AskedLemmas: a client's line that begins with the word of a call is that call, or refused.
+-- AskedLemmas: a client's line that begins with the word of a call is that call, or is refused.
 use Rattle.std.proofs.Common.{◌≡◌, ◌≤◌, ◌∙◌, ℕ, Bool, true, false, cond, List, ◌∷◌, ◌++◌, []}
 use Rattle.std.proofs.Common.{length, nat_lt, nat_le, refl, ap, sym, arith, Option, None, Some}
 use Rattle.std.proofs.Common.{Ok, Err, codes, length-append, subst}
@@ -26,7 +26,7 @@ use Rattle.pt_grammar.proofs.ScriptLemmas.{called_again}
 use Rattle.pt_grammar.proofs.WholeLemmas.{whole_name}
 use Rattle.pt_grammar.proofs.WordLemmas.{read_by_word}
 
--- what has a word and a space is longer than `die`
+-- a text with a word and a space is longer than `die`
 not_die : (text : List ℕ) → 4 ≤ length text → bytes_eq text (codes "die") ≡ false
 not_die text long = by (bytes_eq text (codes "die")) refl
   where
@@ -36,7 +36,7 @@ not_die text long = by (bytes_eq text (codes "die")) refl
         absurd (omega arith)
     by false e = refl
 
--- what spells no line of a connection is refused
+-- a text that spells no line of a connection is refused
 pub refused :
     (text client : List ℕ) → 4 ≤ length text → length text ≤ 128 → line_read text ≡ None
     → body_read (Named client) text ≡ Err refusal.Syntax
@@ -48,7 +48,7 @@ refused text client long short none =
     (cond b (Err refusal.Long) (ok_or (line_read text) refusal.Syntax))) test
     ∙ ap (λ o. body_from (Named client) (ok_or o refusal.Syntax)) none
 
--- what is read as a call of a verb, however long it is
+-- a text that is read as a call of a verb, however long it is
 pub said_if_asked :
     (text : List ℕ) (args : List (List ℕ)) (verb : Verb) (o : Option Call)
     → line_read text ≡ line_of verb args → option_map line.Ask o ≡ line_of verb args
@@ -58,7 +58,7 @@ said_if_asked text args verb (Some call) read asked = λ client.
     called_again client text (line.Ask call)
     (spells-line_read text (line.Ask call) (read ∙ sym asked))
 
--- what is read as a call of a verb or as nothing
+-- a text that is read as a call of a verb, or as nothing
 pub said_or_refused :
     (text : List ℕ) (args : List (List ℕ)) (verb : Verb) (o : Option Call) → 4 ≤ length text
     → line_read text ≡ line_of verb args → option_map line.Ask o ≡ line_of verb args
@@ -69,7 +69,7 @@ said_or_refused text args verb (Some call) long read asked client short =
     called_again client text (line.Ask call)
     (spells-line_read text (line.Ask call) (read ∙ sym asked))
 
--- a text is as long as what it begins with
+-- a text is at least as long as its beginning
 pub is_long :
     (text start args : List ℕ) → text ≡ start ++ args → 4 ≤ length start → 4 ≤ length text
 is_long text start args is long = omega (arith, ap length is, length-append start args, long)

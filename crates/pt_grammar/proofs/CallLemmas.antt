@@ -60,7 +60,7 @@ spells-call_until Timedlock text name d h = h
 spells-call_until Timedrdlock text name d h = h
 spells-call_until Timedwrlock text name d h = h
 
--- and with a clock
+-- the same with a clock and a deadline
 pub spells-call_by_clock :
     (verb : ClockedVerb) (text name : List ℕ) (clock : Clock) (d : Timespec)
     → OnNameByClock text (clocked_word verb) name clock d
@@ -69,7 +69,7 @@ spells-call_by_clock Clocklock text name clock d h = h
 spells-call_by_clock Clockrdlock text name clock d h = h
 spells-call_by_clock Clockwrlock text name clock d h = h
 
--- the word of a clock's moment, and the moment
+-- the word of a clock's moment and two numbers spell the moment
 pub spells-moment :
     (clock : Clock) (text : List ℕ) (t : ℕ) → OnMoment text (moment_word clock) t
     → Spells text (line.Tick clock t)
@@ -82,7 +82,7 @@ pub spelled_moment :
 spelled_moment text Real t h = by_moment Real text t h
 spelled_moment text Mono t h = by_moment Mono text t h
 
--- the text of each call is its verb's word and what it is read from
+-- the text of each call is the word of its verb and the fields that it is read from
 pub spelled_call :
     (text : List ℕ) (asked : Call) → SpellsCall text asked → IsSpelled text (line.Ask asked)
 spelled_call text (call.MutexInit name kind robust) h = by_new_mutex text name kind robust h

@@ -1,4 +1,4 @@
--- ClientLemmas: a line's client, and what is after it.
+-- ClientLemmas: a line's client and the text after it.
 use Rattle.std.proofs.Common.{◌≡◌, ◌≢◌, ◌<◌, ◌+◌, ◌∙◌, ◌==◌, ◌&&◌, not, ℕ, zero, suc, Bool, true}
 use Rattle.std.proofs.Common.{false, cond, List, [], ◌∷◌, ◌++◌, length, take, drop, get_or, nat_le}
 use Rattle.std.proofs.Common.{refl, ap, sym, subst, arith, None, Some, add-one, codes}
@@ -22,7 +22,7 @@ behind-other :
     (x : ℕ) (xs : List ℕ) → (x == 32) ≡ false → behind_space (x ∷ xs) ≡ behind_space xs
 behind-other x xs ne = ap (λ b. cond b (Some xs) (behind_space xs)) ne
 
--- at the first space
+-- the text before the first space
 before-at :
     (xs : List ℕ) (i : ℕ) → i < length xs → get_or xs i 0 ≡ 32
     → ((k : ℕ) → k < i → get_or xs k 0 ≢ 32) → before_space xs ≡ take i xs
@@ -47,7 +47,7 @@ behind-at (x ∷ xs) (suc i) lt here before =
     ∙ behind-at xs i (omega arith) here (λ k small. before (suc k) (omega arith))
     ∙ ap Some same
 
--- with no space
+-- the text before the first space, if there is no space
 before-none :
     (xs : List ℕ) → ((k : ℕ) → k < length xs → get_or xs k 0 ≢ 32) → before_space xs ≡ xs
 before-none [] none = refl
@@ -62,7 +62,7 @@ behind-none (x ∷ xs) none =
     behind-other x xs (not_space x (none 0 (omega arith)))
     ∙ behind-none xs (λ k small. none (suc k) (omega arith))
 
--- what memchr finds
+-- the text before the space that memchr finds
 pub before-found :
     (xs : List ℕ) (i : ℕ) → IsFirstByte (is_byte 32) xs (Some i) → before_space xs ≡ take i xs
 before-found xs i h =
@@ -84,7 +84,7 @@ pub behind-missing :
     (xs : List ℕ) → IsFirstByte (is_byte 32) xs None → behind_space xs ≡ None
 behind-missing xs h = behind-none xs (λ k lt e. h k (omega arith) lt (eq-eqb (get_or xs k 0) 32 e))
 
--- a word and a space
+-- a word, a space, and other bytes
 pub before-word :
     (word rest : List ℕ) → is_word word ≡ true → before_space (word ++ 32 ∷ rest) ≡ word
 before-word [] rest h = refl
@@ -100,7 +100,7 @@ behind-word (x ∷ word) rest h =
     let parts = and_parts (is_no_space x) (is_word word) h in
     behind-other x (word ++ 32 ∷ rest) (no_space_is x parts.0) ∙ behind-word word rest parts.1
 
--- a text with a space is the two sides of it
+-- a text with a space consists of the two sides of it
 pub both_sides :
     (text rest : List ℕ) → behind_space text ≡ Some rest
     → text ≡ before_space text ++ 32 ∷ rest
@@ -117,7 +117,7 @@ both_sides (x ∷ xs) rest h = by (both_sides xs rest) (x == 32) refl h
         ap (λ y. y ∷ xs) space ∙ ap (λ ys. 32 ∷ ys) same
     by more false e h = ap (λ ys. x ∷ ys) (more h)
 
--- client names
+-- the bytes of client names
 client_byte_is_no_space : (b : ℕ) → is_client_byte b ≡ true → is_no_space b ≡ true
 client_byte_is_no_space b h = by (b == 32) refl
   where
@@ -156,7 +156,7 @@ client_name_found name e =
     let high : nat_le (length name) 8 ≡ true = lens.1 in
     record { some = grind arith; fits = grind arith; bytes = outer.1 }
 
--- what whose line it is says of the name
+-- what a line's client says about the name
 abbrev pub IsNamed : List ℕ → Who → Type 0
 IsNamed name (Named text) = (text ≡ name) × IsClientName text
 IsNamed name Star = name ≡ codes "*"
@@ -176,7 +176,7 @@ named_is name = by (bytes_eq name (codes "*")) refl
     by true e = bytes_are name (codes "*") e
     by false e = other (is_client_name name) refl
 
--- a client's name is its own
+-- a client's name is read as that client
 pub named_again : (name : List ℕ) → IsClientName name → who_named name ≡ Named name
 named_again name h = by (bytes_eq name (codes "*")) refl
   where

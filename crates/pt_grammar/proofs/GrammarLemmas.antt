@@ -1,4 +1,4 @@
--- GrammarLemmas: a text is read as just the line that it spells.
+-- GrammarLemmas: a text is read as exactly the line that it spells.
 use Rattle.std.proofs.Common.{◌≡◌, ◌≤◌, ◌∙◌, ℕ, Bool, List, [], ◌∷◌, length, refl, ap, sym, subst}
 use Rattle.std.proofs.Common.{arith, Option, None, Some, Result, Ok, Err, IfOk, false, cond, nat_lt}
 use Rattle.std.proofs.Common.{decimal, length-append}
@@ -39,7 +39,7 @@ use Rattle.pt_grammar.proofs.SpelledLemmas.{IsSpelled, by_hello, short_word}
 use Rattle.pt_fields.proofs.TestLemmas.{map_some, then_some, find-passes}
 use Rattle.pt_grammar.proofs.VerbLemmas.{verb_of-word, word_is_short}
 
--- what spells a line is the word of a verb and the fields that the line is read from
+-- a text that spells a line is the word of a verb and the fields that the line is read from
 pub spelled : (text : List ℕ) (read : CallLine) → Spells text read → IsSpelled text read
 spelled text (line.Hello p) h = by_hello text p h
 spelled text (line.Ask asked) h = spelled_call text asked h
@@ -70,13 +70,13 @@ length-spelled text read h =
       s.short,
     )
 
--- what the parts of some fields are
+-- fields from their parts
 parts_are :
     (args : List (List ℕ)) (field word : List ℕ) (more rest : List (List ℕ))
     → args ≡ field ∷ more → field ≡ word → more ≡ rest → args ≡ word ∷ rest
 parts_are args field word more rest e f g = cc
 
--- what is read of a verb and fields is spelled by them
+-- a line that is read from a verb and fields is spelled by them
 line_found :
     (verb : Verb) (args : List (List ℕ)) (read : CallLine) → line_of verb args ≡ Some read
     → Spells (spaced (word_of verb) args) read
@@ -252,7 +252,7 @@ spells-line_read text read h = by (fields text) refl h
         ∙ sym (spaced_fields text word args split) in
         subst (λ t. Spells t read) is (line_found v.0 args read v.2)
 
--- what is read is spelled
+-- a line that is read from a text is spelled by it
 pub found_by :
     (text : List ℕ) (o : Option CallLine) (r : Result CallLine Refusal)
     → o ≡ line_read text → r ≡ ok_or o Syntax → IfOk r (Spells text)
@@ -262,7 +262,7 @@ found_by text o r e f = subst (λ q. IfOk q (Spells text)) (sym f) (by o e)
     by None e = tt
     by (Some read) e = spells-line_read text read (sym e)
 
--- and as a line of a connection, since it is not too long
+-- it is also read as a line of a connection, since it is not too long
 pub call_read-spelled :
     (text : List ℕ) (read : CallLine) → Spells text read → call_read text ≡ Ok read
 call_read-spelled text read h =

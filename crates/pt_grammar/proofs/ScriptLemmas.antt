@@ -1,4 +1,4 @@
--- ScriptLemmas: a line of a script is read as just what it spells.
+-- ScriptLemmas: a line of a script is read as exactly what it spells.
 use Rattle.std.proofs.Common.{◌≡◌, ◌<◌, ◌≤◌, ◌∙◌, ℕ, Bool, true, false, cond, List, ◌∷◌, ◌++◌}
 use Rattle.std.proofs.Common.{length, nat_lt, refl, ap, sym, subst, arith, Option, None, Some}
 use Rattle.std.proofs.Common.{IfSome, Result, Ok, Err, IfOk, IfErr, codes, length-append}
@@ -80,7 +80,7 @@ call_why text short =
     none None = refl
     none (Some read) = tt
 
--- what is read after a client is spelled there
+-- what is read after a client is spelled by that text
 body_found :
     (name rest : List ℕ) (who : Who) → IsNamed name who
     → IfOk (body_read who rest) (SpellsBody who rest)
@@ -140,7 +140,7 @@ body_why (Named text) rest short = by (bytes_eq rest (codes "die"))
 body_why Star rest short = body_from_why Star (call_read rest) (call_why rest short)
 body_why Unknown rest short = refl
 
--- `die` is no call
+-- `die` is not a call
 not_die : (rest : List ℕ) (read : CallLine) → Spells rest read → bytes_eq rest (codes "die") ≡ false
 not_die rest read s = by (bytes_eq rest (codes "die")) refl
   where
@@ -158,7 +158,7 @@ called_again text rest read s =
     ap (λ b. cond b (Ok Die) (body_from (Named text) (call_read rest))) (not_die rest read s)
     ∙ ap (body_from (Named text)) (call_read-spelled rest read s)
 
--- what is spelled after a client is read there
+-- what is spelled after a client is read from that text
 body_again :
     (who : Who) (rest : List ℕ) (body : ScriptBody) → SpellsBody who rest body
     → body_read who rest ≡ Ok body
@@ -220,7 +220,7 @@ named_spelled rest verb name is client named =
       spelled = is ∙ ap (λ ys. named_word verb ++ 32 ∷ ys) (sym (append-nil name));
     }))
 
--- the client of a line that says something
+-- the client of a line that asks for something
 abbrev IsClient : Who → Type 0
 IsClient (Named text) = IsClientName text
 IsClient Star = Unit {0}
@@ -250,7 +250,7 @@ client_short (Named text) h = h.fits
 client_short Star h = omega arith
 client_short Unknown h = absurd h
 
--- what is said is short
+-- the text after the client is short
 says_short :
     (who : Who) (rest : List ℕ) (body : ScriptBody) → SpellsBody who rest body
     → length rest ≤ 112
@@ -288,7 +288,7 @@ read_again text who body s =
     let said : body_behind who (Some s.rest) ≡ Ok body = body_again who s.rest body s.says in
     rw (named, back, said)
 
--- the text of what is read
+-- the name of the client that is read
 text_named :
     (name rest : List ℕ) (who : Who) (body : ScriptBody) → IsNamed name who
     → SpellsBody who rest body → name ≡ who_text who

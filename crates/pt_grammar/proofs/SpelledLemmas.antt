@@ -99,7 +99,7 @@ by_deadline verb text name d h = record {
       (name_again name h.named) (one_deadline_again d h.sec h.nsec));
 }
 
--- a clock and a deadline are read again
+-- a clock and a deadline are read back
 due_again :
     (clock : Clock) (d : Timespec) → IsNumber d.sec → IsNumber d.nsec
     → clock_and_deadline (clock_name clock ∷ decimal d.sec ∷ decimal d.nsec ∷ [])
@@ -108,7 +108,7 @@ due_again clock d h g =
     first_then-again clock_named one_deadline (clock_name clock)
     (decimal d.sec ∷ decimal d.nsec ∷ []) clock d (clock_again clock) (one_deadline_again d h g)
 
--- their fields are words, and this long at most
+-- their fields are words, and have at most this length
 due_words :
     (clock : Clock) (d : Timespec) → IsNumber d.sec → IsNumber d.nsec
     → AreWords (clock_name clock ∷ decimal d.sec ∷ decimal d.nsec ∷ [])

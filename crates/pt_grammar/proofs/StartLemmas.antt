@@ -1,4 +1,4 @@
--- StartLemmas: the bytes of a client by the table, and the client that a line begins with.
+-- StartLemmas: the bytes of a client's name by the table, and the client that a line begins with.
 use Rattle.std.proofs.Common.{◌≡◌, ◌<◌, ◌≤◌, ◌+◌, ◌-◌, ◌^◌, ◌∙◌, ◌&&◌, ◌⊎◌, ℕ, zero, suc}
 use Rattle.std.proofs.Common.{Bool, true, false, not, List, ◌∷◌, ◌++◌, length, take, drop}
 use Rattle.std.proofs.Common.{get_or, refl, ap, sym, subst, arith, inl, inr, Some}
@@ -51,7 +51,7 @@ pub may_stand_at :
     (byte : ℕ) → byte < 2 ^ 8 → get_or MAY_STAND byte false ≡ is_client_byte byte
 may_stand_at byte fits = right_at 256 byte refl fits
 
--- a text by its first bytes
+-- a text, split after its first bytes
 pub by_start :
     (text items : List ℕ) (n : ℕ) → items ≡ take n text → n ≤ length text
     → text ≡ items ++ drop (length items) text
@@ -61,13 +61,13 @@ by_start text items n is le =
     ∙ ap (λ ys. ys ++ drop n text) (sym is)
     ∙ ap (λ m. items ++ drop m text) (sym long)
 
--- the first bytes of a text by a block that it begins with
+-- the first bytes of a text, from a block that it begins with
 pub front_of :
     (block text : List ℕ) (n len : ℕ) → block ≡ take n text → len ≤ n
     → take len block ≡ take len text
 front_of block text n len is le = ap (take len) is ∙ take-take len n text le
 
--- a client's name by the block that begins with it
+-- a client's name, from the block that begins with it
 pub named_by :
     (block text : List ℕ) (len : ℕ) → take len block ≡ take len text → 1 ≤ len → len ≤ 8
     → len ≤ length text → list_all is_client_byte (take len text) ≡ true
@@ -87,7 +87,7 @@ pub whole_name :
     → IsClientName name → IsClientName (take (length name) block)
 whole_name block name same is = subst IsClientName (sym (whole block name same)) is
 
--- a name and a space at the start of a text
+-- the text after a name and a space at its start
 behind : (text : List ℕ) (n : ℕ) → take (length text - n) (drop n text) ≡ drop n text
 behind text n =
     take_all (length text - n) (drop n text) (omega (arith, length-drop n text))
@@ -103,7 +103,7 @@ at_space text name len is parts lt space =
     ∙ ap (λ b. name ++ b ∷ drop (len + 1) text) space
     ∙ ap (λ ys. name ++ 32 ∷ ys) (sym (behind text (len + 1)))
 
--- the client of a text that begins with one
+-- the client of a text that begins with a name and a space
 pub who_at_start :
     (text name rest : List ℕ) → IsClientName name → text ≡ name ++ 32 ∷ rest
     → Named name ≡ who_named (before_space text)

@@ -1,4 +1,4 @@
--- WholeLemmas: one name or number alone is the whole text, as neither has a space.
+-- WholeLemmas: a single name or number is the whole text, since neither has a space.
 use Rattle.std.proofs.Common.{◌≡◌, ◌∙◌, ◌==◌, ◌&&◌, not, ℕ, Bool, true, false, cond, List, [], ◌∷◌}
 use Rattle.std.proofs.Common.{length, nat_le, refl, ap, sym, subst, Option, None, Some, slice_index}
 use Rattle.std.proofs.Common.{◌||◌}
@@ -19,13 +19,13 @@ one_field (x ∷ xs) h =
     let parts = and_parts (is_no_space x) (is_word xs) h in
     fields-other x xs (no_space_is x parts.0) ∙ ap (push_first x) (one_field xs parts.1)
 
--- fields of which there is one at least
+-- one or more fields
 record AreSome (fs : List (List ℕ)) : Type 0 where
   pub first : List ℕ
   pub more : List (List ℕ)
   pub are : fs ≡ first ∷ more
 
--- fields of which there are two at least
+-- two or more fields
 record AreTwo (fs : List (List ℕ)) : Type 0 where
   pub first : List ℕ
   pub second : List ℕ
@@ -44,7 +44,7 @@ some_fields (b ∷ bytes) = by (b == 32)
     by true = record { first = []; more = fields bytes; are = refl }
     by false = push-some b (fields bytes)
 
--- a text with a space has two fields at least
+-- a text with a space has at least two fields
 two_fields : (text : List ℕ) → is_word text ≡ false → AreTwo (fields text)
 two_fields [] h = cc
 two_fields (b ∷ bytes) h = by (two_fields bytes) (b == 32) refl
@@ -89,7 +89,7 @@ no_space test b not_there h = by (b == 32) refl
         cc
     by false e = ap not e
 
--- bytes among which a space can't be are a word
+-- bytes that pass a test that a space fails form a word
 all_no_space :
     (test : ℕ → Bool) (xs : List ℕ) → test 32 ≡ false → list_all test xs ≡ true
     → is_word xs ≡ true
@@ -134,10 +134,10 @@ no_number text h = by _ refl
         cc
     by false e = refl
 
--- one name alone is the whole text
+-- a single name is the whole text
 pub whole_name : (text : List ℕ) → alone name_of (fields text) ≡ name_of text
 whole_name text = whole name_of no_name text
 
--- one number alone is the whole text
+-- a single number is the whole text
 pub whole_number : (text : List ℕ) → alone number_of (fields text) ≡ number_of text
 whole_number text = whole number_of no_number text

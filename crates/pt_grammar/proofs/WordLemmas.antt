@@ -1,4 +1,4 @@
--- WordLemmas: a verb's word, a space and fields are read as what the verb and the fields are.
+-- WordLemmas: a verb's word, a space and fields are read as the verb and the fields are.
 use Rattle.std.proofs.Common.{◌≡◌, ◌∙◌, ℕ, List, [], ◌∷◌, ◌++◌, Option, Some, IfSome, Ok, ap, sym}
 use Rattle.std.proofs.Common.{refl, true, Bool, codes, nat_le, length, append_assoc}
 use Rattle.std.specs.Option.{option_and_then, option_map}
@@ -40,7 +40,7 @@ read_by_word text args start verb begins is =
     ∙ ap line_of_fields (fields-word (word_of verb) args (word_is_word verb))
     ∙ ap (option_and_then (λ v. line_of v (fields args))) (verb_of-word verb)
 
--- what a client asks for by a word, a space and fields
+-- what a client asks for with a word, a space and fields
 pub word_said :
     (text args start : List ℕ) (verb : Verb) (o : Option Call)
     → start ≡ word_of verb ++ 32 ∷ [] → text ≡ start ++ args → IsAsked verb (fields args) o
@@ -48,7 +48,7 @@ pub word_said :
 word_said text args start verb o begins is asked =
     call_said text (fields args) verb o (read_by_word text args start verb begins is) asked
 
--- two names with a space between are the first of them, and the second alone
+-- two names with a space between them are read as the first name and the second
 two_names :
     (args cond mutex : List ℕ) → fields args ≡ cond ∷ fields mutex → IsName cond → IsName mutex
     → Some (cond, mutex) ≡ first_then name_of (alone name_of) (fields args)
@@ -68,7 +68,7 @@ wait_spelled text args cond mutex is parts client c m =
     word_said text args (codes "wait ") first.Wait (Some (call.Wait cond mutex)) refl is asked
     client
 
--- a name and what is read of the fields after it
+-- a name, and what is read from the fields after it
 name_first :
     {Y : Type 0} (rest : List (List ℕ) → Option Y) (args name : List ℕ) (more : List (List ℕ))
     (y : Y) → fields args ≡ name ∷ more → rest more ≡ Some y → IsName name
@@ -90,7 +90,7 @@ timed_spelled text args name more verb due is parts read client n =
     word_said text args (timed_word verb ++ 32 ∷ []) (first.Timed verb)
     (Some (call_until verb name due)) refl is asked client
 
--- `mutex-init`, a space, a name, a kind and a robustness are read as the making of that mutex
+-- `mutex-init`, a space, a name, a kind and a robustness are read as the call that makes that mutex
 pub mutex_init_spelled :
     (text args name : List ℕ) (more : List (List ℕ)) (made : MutexKind × Bool)
     → text ≡ codes "mutex-init " ++ args → fields args ≡ name ∷ more
@@ -103,7 +103,7 @@ mutex_init_spelled text args name more made is parts read client n =
     (name_first (first_then kind_of (alone robust_of)) args name more made parts read n) in
     word_said text args (codes "mutex-init ") first.MutexInit (Some makes) refl is asked client
 
--- `barrier-init`, a space, a name and a count are read as the making of that barrier
+-- `barrier-init`, a space, a name and a count are read as the call that makes that barrier
 pub barrier_init_spelled :
     (text args name : List ℕ) (more : List (List ℕ)) (count : ℕ)
     → text ≡ codes "barrier-init " ++ args → fields args ≡ name ∷ more

@@ -12,7 +12,7 @@ pub shows-none : {A : Type 0} (b : ℕ) (e : Entry) (old new : Records A) (r : O
 shows-none b e old new r n s =
     subst (λ (o : Option Compact). ShowsIfSome b e old new o) (sym n) s
 
--- the same texts and hints are the same records
+-- records with the same texts and hints are unchanged
 pub texts-kept : {A : Type 0} (old : Records A) (ts : Vec ℕ A) (hs : Hints A)
     → ts ≡ old.texts → hs ≡ old.hints → (record old { texts = ts; hints = hs }) ≡ old
 texts-kept {A} old ts hs e f =

@@ -90,7 +90,7 @@ shows-moment b old ms clock m j at e len cap =
     shows-appended _ _ _ _ _ _ (append-moment old ms m e len cap)
     (rw (at_end _ _ _ 0 _ e at)) (within_end _ _ _ _ e at)
 
--- the client and the outcome that a stored call has
+-- the client and the outcome of a stored call
 told : {A : Type 0} (b client who : ℕ) (call : Call) (a : Answer) (outcome : Option Outcome)
     (old : Records A) (c : Compact) → b + client ≡ who → answered a ≡ outcome
     → Shows b (CallEntry (b + client) call (answered a)) old old c

@@ -1,4 +1,4 @@
--- What is read of a stored history.
+-- What is read off a stored history.
 use Rattle.std.proofs.Common.{ℕ, ◌≡◌, ◌+◌, ◌-◌, ◌<◌, ◌≤◌, List, length, take, drop, ap, sym, subst}
 use Rattle.std.proofs.Common.{Option, Some, None, ◌∙◌, arith, refl, slice_index_or, slice_get}
 use Rattle.std.specs.Option.{option_map}
@@ -14,7 +14,7 @@ use Rattle.pt_history.specs.Records.{parts_of}
 use Rattle.pt_history.specs.Stored.{Stored, entries_of}
 use Rattle.pt_history.proofs.Kept.{length-entries, viewed}
 
--- the part of the texts that is a text
+-- the part of the texts that is one text
 pub part-text : (seen texts : List ℕ) (from n : ℕ) → seen ≡ texts
     → take ((from + n) - from) (drop from seen) ≡ text_at texts from n
 part-text seen texts from n e =
@@ -27,7 +27,7 @@ pub part-named : (seen texts : List ℕ) (from n : ℕ) → seen ≡ texts → I
 part-named seen texts from n e h =
     subst (λ (t : List ℕ). IsName t) (sym (part-text seen texts from n e)) h
 
--- what a stored entry that was found refers to is there
+-- what a stored entry refers to is stored, if the entry was found
 pub stored-at : (p : Parts) (seen items : List Compact) (k : ℕ) (c : Compact) → seen ≡ items
     → k < length seen → c ≡ slice_index_or seen k c → All (IsStored p) items → IsStored p c
 stored-at p seen items k c e l f a =
@@ -54,7 +54,7 @@ seen-at seen start limit room place base r items now c v b e l f =
     (slice_get_read items (length items) (place - start.at) c refl within same)
     ∙ ap (λ (x : ℕ). Some (decoded x (parts_of r) c)) (sym b)
 
--- there is none past the end
+-- no entry is seen past the end
 pub seen-past : {A : Type 0} (seen : Stored) (start : StartRows) (limit room place : ℕ)
     (r : Records A) (items now : List Compact)
     → viewed start (entries_of start.at r items) limit room ≡ seen
@@ -65,7 +65,7 @@ seen-past seen start limit room place r items now v e l =
     ∙ slice_get_past (entries_of start.at r items) (place - start.at)
     (omega (arith, l, ap length e, length-entries start.at r items))
 
--- places count from where the Start ends
+-- places count from the end of the Start
 pub seen-start : (seen : Stored) (start : StartRows) (es : List Entry) (limit room : ℕ)
     → viewed start es limit room ≡ seen → start.at ≡ seen.start.at
 seen-start seen start es limit room v = ap (λ (s : Stored). s.start.at) v

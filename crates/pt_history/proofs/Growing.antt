@@ -47,7 +47,7 @@ pub within_end : {X : Type 0} (xs ys : List X) (x : X) (i : ℕ) → ys ≡ xs +
     → i < length ys
 within_end xs ys x i e f = omega (arith, ap length e, length-append xs (x ∷ []))
 
--- an entry that is read off records that grew so
+-- an entry that is read off records that grew in this way
 pub shows-appended : {A : Type 0} (b : ℕ) (e : Entry) (old new : Records A) (c : Compact)
     (more : Parts)
     → Appends old new more → decoded b (parts_of new) c ≡ e → IsStored (parts_of new) c
@@ -68,7 +68,7 @@ shows-appended b e old new c more a same stored = record {
   few = omega (arith, a.wholes_len);
 }
 
--- only texts
+-- only texts are appended
 pub append-texts : {A : Type 0} (old : Records A) (ts : Vec ℕ A) (hs : Hints A) (text : List ℕ)
     → ts.items ≡ old.texts.items ++ text → vec_len ts ≤ vec_len old.texts + 64
     → vec_capacity old.texts ≤ vec_capacity ts
@@ -89,7 +89,7 @@ append-texts old ts hs text e l c = record {
   wholes_capacity = omega arith;
 }
 
--- texts and a limit
+-- texts and a limit are appended
 pub append-limit : {A : Type 0} (old : Records A) (ts : Vec ℕ A) (hs : Hints A)
     (ls : Vec TimeLimit A) (text : List ℕ) (l : TimeLimit)
     → ts.items ≡ old.texts.items ++ text → vec_len ts ≤ vec_len old.texts + 64
@@ -113,7 +113,7 @@ append-limit old ts hs ls text l e n c e2 n2 c2 = record {
   wholes_capacity = omega arith;
 }
 
--- only a reading
+-- only a reading is appended
 pub append-moment : {A : Type 0} (old : Records A) (ms : Vec ℕ A) (m : ℕ)
     → ms.items ≡ old.moments.items ++ m ∷ [] → vec_len ms ≡ vec_len old.moments + 1
     → vec_capacity ms ≡ vec_capacity old.moments
@@ -134,7 +134,7 @@ append-moment old ms m e n c = record {
   wholes_capacity = omega arith;
 }
 
--- only a whole entry
+-- only a whole entry is appended
 pub append-whole : {A : Type 0} (old : Records A) (ws : Vec Entry A) (w : Entry)
     → ws.items ≡ old.wholes.items ++ w ∷ [] → vec_len ws ≡ vec_len old.wholes + 1
     → vec_capacity ws ≡ vec_capacity old.wholes
@@ -155,7 +155,7 @@ append-whole old ws w e n c = record {
   wholes_capacity = omega arith;
 }
 
--- nothing
+-- nothing is appended
 pub append-nothing : {A : Type 0} (old : Records A)
     → Appends old old (record { texts = []; limits = []; moments = []; wholes = [] })
 append-nothing old = record {
@@ -173,7 +173,7 @@ append-nothing old = record {
   wholes_capacity = omega arith;
 }
 
--- an entry that needs nothing beside it
+-- an entry that needs nothing in the records
 pub shows-alone : {A : Type 0} (b : ℕ) (e : Entry) (old : Records A) (r : Option Compact)
     → IfSome r (λ c. ShowsAlone b c e) → ShowsIfSome b e old old r
 shows-alone b e old None s = refl
@@ -181,7 +181,7 @@ shows-alone b e old (Some c) s =
     shows-appended b e old old c _ (append-nothing old) (s.same (parts_of old))
     (s.stored (parts_of old))
 
--- an entry that is read off records that stay the same
+-- an entry that is read off unchanged records
 pub shows-read : {A : Type 0} (b : ℕ) (e : Entry) (old : Records A) (c : Compact)
     → decoded b (parts_of old) c ≡ e → IsStored (parts_of old) c → Shows b e old old c
 shows-read b e old c same stored =

@@ -13,16 +13,16 @@ use Rattle.pt_history.specs.Stored.{Stored, IsCounted, IsRecorded, entries_of}
 use Rattle.pt_history.proofs.Counts.{counted-push}
 use Rattle.pt_history.proofs.Stable.{decoded-push, stored-push, fewer}
 
--- what is seen of these
+-- what contracts see of these parts
 abbrev pub viewed : StartRows → List Entry → ℕ → ℕ → Stored
 viewed start es limit room = record { start = start; entries = es; limit = limit; room = room }
 
--- as many entries as stored ones
+-- there are as many entries as stored ones
 pub length-entries : {A : Type 0} (at : ℕ) (r : Records A) (cs : List Compact)
     → length (entries_of at r cs) ≡ length cs
 length-entries at r cs = length-map cs (decoded (base_of at) (parts_of r))
 
--- the count, while the parts stay
+-- the count is unchanged while the parts are
 pub counted-same : {A : Type 0} (s : StartRows) (at : ℕ) (old new : Records A)
     (cs ds : List Compact) (n : ℕ)
     → ds ≡ cs → parts_of new ≡ parts_of old → IsCounted s (entries_of at old cs) n
@@ -33,7 +33,7 @@ counted-same s at old new cs ds n e p c =
     ∙ ap (λ (x : Parts). map (decoded (base_of at) x) cs) p in
     subst (λ (es : List Entry). IsCounted s es n) (sym same) c
 
--- the records, while the parts stay
+-- what holds of the records while the parts are unchanged
 pub recorded-same : {A : Type 0} (old new : Records A) (cs ds : List Compact) (n : ℕ)
     → ds ≡ cs → KeepsParts old new → IsRecorded old cs n → IsRecorded new ds n
 recorded-same old new cs ds n e k r =
@@ -54,7 +54,7 @@ entries-more at b old new cs ds c e room f d h r =
     ap (λ (x : List Compact). entries_of at new x) d
     ∙ decoded-push (base_of at) (parts_of old) (parts_of new) cs c e h.grown r.stored same
 
--- the count with one entry more
+-- the count with one more entry
 pub counted-more : {A : Type 0} (s : StartRows) (at : ℕ) (old new : Records A)
     (cs ds : List Compact)
     (e : Entry) (n m : ℕ)
@@ -65,7 +65,7 @@ counted-more s at old new cs ds e n m all o k =
     (subst (λ (x : ℕ). IsCounted s (entries_of at old cs ++ e ∷ []) (n + x)) (sym o)
     (counted-push s (entries_of at old cs) n e k))
 
--- what is seen with one entry more
+-- what is seen with one more entry
 pub seen-more : (seen : Stored) (start : StartRows) (es ds : List Entry) (limit room : ℕ)
     (e : Entry)
     → ds ≡ es ++ e ∷ []
@@ -76,7 +76,7 @@ seen-more seen start es ds limit room e d v =
     ap (λ (x : List Entry). viewed start x limit (room - 1)) d
     ∙ ap (λ (s : Stored). record s { entries = s.entries ++ e ∷ []; room = s.room - 1 }) v
 
--- the records with one entry more
+-- the records with one more entry
 pub recorded-more : {A : Type 0} (b : ℕ) (old new : Records A) (cs ds : List Compact) (c : Compact)
     (e : Entry) (n : ℕ)
     → ds ≡ cs ++ c ∷ [] → 0 < n → Shows b e old new c → IsRecorded old cs n → IsRecorded new ds

@@ -4,7 +4,7 @@ pub mod Counts
 pub mod Places
 -- Kept: the invariant of a stored history
 pub mod Kept
--- Growing: what a stored entry appends
+-- Growing: what a stored entry appends to the records
 pub mod Growing
 -- Stable: stored entries stay the same while the records grow
 pub mod Stable
@@ -12,17 +12,17 @@ pub mod Stable
 pub mod Names
 -- Room: the room of a stored history
 pub mod Room
--- Found: what is read of a stored history
+-- Found: what is read off a stored history
 pub mod Found
 -- Absent: entries that aren't stored
 pub mod Absent
--- Pushed: the room and the memory of a stored history with one entry more
+-- Pushed: the room and the memory of a stored history with one more entry
 pub mod Pushed
 -- Calls: calls as they are stored
 pub mod Calls
--- Wholes: entries that are stored whole
+-- Wholes: entries that are stored whole, if nothing shorter was stored
 pub mod Wholes
--- Widened: records whose lists stay, with as much memory or more
+-- Widened: records whose lists are unchanged, with at least as much memory
 pub mod Widened
 -- Seen: what is seen of a stored history while its fields change
 pub mod Seen

@@ -9,7 +9,7 @@ use Rattle.pt_history.specs.Compact.{IsText}
 use Rattle.pt_history.specs.Records.{HasText, HasTexts, LiesAt}
 use Rattle.pt_history.proofs.Stable.{text-stable}
 
--- the length of a name is a byte
+-- the length of a name fits into a byte
 pub short-name : (name : List ℕ) → IsName name → Fits w8 (length name)
 short-name name n = omega (arith, n.fits)
 
@@ -22,11 +22,11 @@ as-wide n m e h = omega arith
 pub near-start : (n : ℕ) → n < 4294967296 → n ≤ 4294967327
 near-start n h = omega arith
 
--- the bytes of one name are no more than those of two
+-- what grew by one name at most grew by two at most
 pub for-two : (new old : ℕ) → new ≤ old + 32 → new ≤ old + 64
 for-two new old h = omega arith
 
--- an index after a name that begins at one of 32 bits
+-- the index after a name that begins at an index of 32 bits
 pub next-wide : (n : ℕ) (name : List ℕ) → n < 4294967296 → IsName name
     → Fits w64 (n + length name)
 next-wide n name h i = omega (arith, i.fits)
@@ -40,7 +40,7 @@ pub room-one : (len capacity more : ℕ) (bytes name : List ℕ) → bytes ≡ n
     → 32 ≤ more → len + more ≤ capacity → len + length name ≤ capacity
 room-one len capacity more bytes name e n m h = omega (arith, n.fits, ap length e)
 
--- and for another after it
+-- and for another name after it
 pub room-two : (old len capacity cap : ℕ) (bytes one next other : List ℕ)
     → bytes ≡ one → IsName bytes → next ≡ other → IsName next
     → len ≡ old + length one → old + 64 ≤ cap → cap ≤ capacity
@@ -76,7 +76,7 @@ lies-end texts name i e = record {
       ∙ take_all (length name) name (omega arith);
 }
 
--- the texts stay, and have the name
+-- the texts are unchanged, and contain the name
 pub text-there : {A : Type 0} (texts : Vec ℕ A) (bytes name : List ℕ) (i : ℕ)
     → bytes ≡ name → IsName bytes → LiesAt texts.items bytes i
     → HasText texts texts name (length bytes) i
@@ -89,7 +89,7 @@ text-there texts bytes name i e n l = record {
   capacity = omega arith;
 }
 
--- the texts stay, and have both names
+-- the texts are unchanged, and contain both names
 pub texts-there : {A : Type 0} (texts : Vec ℕ A) (bytes one next other : List ℕ) (i : ℕ)
     → bytes ≡ one → IsName bytes → next ≡ other → IsName next
     → LiesAt texts.items bytes i → LiesAt texts.items next (i + length bytes)

@@ -10,11 +10,11 @@ use Rattle.pt_history.specs.Stored.{Stored, past_of}
 pub place_of_next : (s : Stored) → place (past_of s) ≡ s.start.at + length s.entries
 place_of_next s = place-behind (reads_of s.start) s.entries
 
--- as many entries are held as are stored
+-- the length of the history is the number of stored entries
 pub held-past : (s : Stored) → held (past_of s) ≡ length s.entries
 held-past s = held-behind (reads_of s.start) s.entries
 
--- the history with one entry more
+-- the history with one more entry
 pub past-pushed : (s : Stored) (e : Entry)
     → behind (reads_of s.start) (s.entries ++ e ∷ []) ≡ past_of s ▷ e
 past-pushed s e = behind-push (reads_of s.start) s.entries e

@@ -1,4 +1,4 @@
--- The room and the memory of a stored history with one entry more.
+-- The room and the memory of a stored history with one more entry.
 use Rattle.std.proofs.Common.{ℕ, ◌≡◌, ◌+◌, ◌-◌, ◌<◌, ◌≤◌, arith}
 use Rattle.pt_history.specs.Stored.{IsWithin}
 

@@ -15,20 +15,20 @@ use Rattle.pt_history.specs.Records.{parts_of, HasRoom, KeepsParts}
 use Rattle.pt_history.specs.Stored.{Stored, IsRecorded, entries_of}
 use Rattle.pt_history.proofs.Kept.{length-entries, viewed}
 
--- the entries, while the parts stay
+-- the entries are unchanged while the parts are
 pub entries-same : {A : Type 0} (at : ℕ) (old new : Records A) (cs ds : List Compact)
     → ds ≡ cs → parts_of new ≡ parts_of old → entries_of at new ds ≡ entries_of at old cs
 entries-same at old new cs ds e p =
     ap (λ (x : List Compact). entries_of at new x) e
     ∙ ap (λ (x : Parts). map (decoded (base_of at) x) cs) p
 
--- what is seen, while the entries stay
+-- what is seen is unchanged while the entries are
 pub seen-same : (seen : Stored) (start : StartRows) (es ds : List Entry) (limit room : ℕ)
     → ds ≡ es → viewed start es limit room ≡ seen → viewed start ds limit room ≡ seen
 seen-same seen start es ds limit room d v =
     ap (λ (x : List Entry). viewed start x limit room) d ∙ v
 
--- what is seen with other room
+-- what is seen with a different room
 pub seen-room : (seen : Stored) (start : StartRows) (es ds : List Entry) (limit room other : ℕ)
     → ds ≡ es → viewed start es limit room ≡ seen
     → viewed start ds limit other ≡ (record seen { room = other })
@@ -43,7 +43,7 @@ pub seen-length : {A : Type 0} (seen : Stored) (start : StartRows) (at limit roo
 seen-length seen start at limit room r cs v =
     ap (λ (s : Stored). length s.entries) (sym v) ∙ length-entries at r cs
 
--- the records with room for so many entries
+-- the records with room for m entries
 pub recorded-room : {A : Type 0} (old new : Records A) (cs ds : List Compact) (n m : ℕ)
     → ds ≡ cs → KeepsParts old new → HasRoom new m → IsRecorded old cs n → IsRecorded new ds m
 recorded-room old new cs ds n m e k h r =
@@ -53,7 +53,7 @@ recorded-room old new cs ds n m e k h r =
       few = omega (arith, k.few, r.few);
     })
 
--- what holds of a result without error
+-- what holds of a success
 pub at-ok : {T E : Type 0} (r : Result T E) (P : Type 0) → false ≡ is_err r → OnOk r P → P
 at-ok (Ok x) P e h = h
 at-ok (Err x) P e h = cc

@@ -21,7 +21,7 @@ use Rattle.pt_history.proofs.Kept.{viewed}
 some-none : {X : Type 0} (x : X) → Some x ≡ None → ⊥
 some-none x e = absurd cc
 
--- what follows where there is none, and what holds of it
+-- what follows if there is no value, and what holds of one
 pub if-none : {X P : Type 0} (x : X) → Some x ≡ None → P
 if-none x e = absurd (some-none x e)
 
@@ -38,12 +38,12 @@ pub limit-read : (p : Parts) (i : ℕ) (x : TimeLimit) → i < length p.limits
     → x ≡ slice_index_or p.limits i x → x ≡ limit_at p i
 limit-read p i x less e = get_or_read p.limits i x less e _
 
--- there is memory for one entry more
+-- there is memory for one more entry
 pub entries-left : (at len room memory limit capacity seen : ℕ)
     → IsWithin at len room memory limit capacity → room ≡ seen → 0 < seen → len < capacity
 entries-left at len room memory limit capacity seen w e h = omega (arith, w.held, w.enough, e, h)
 
--- entries and room fit the limit, as they are seen
+-- entries and room fit into the limit, as contracts see them
 pub within-seen : (n len room other limit most : ℕ) → n ≡ len → room ≡ other → limit ≡ most
     → len + room ≤ limit → n + other ≤ most
 within-seen n len room other limit most e f g fits = omega (arith, e, f, g, fits)
@@ -87,7 +87,7 @@ told-if b client who call a outcome old new r k o s =
     subst (λ (x : ℕ). ShowsIfSome b (CallEntry x call outcome) old new r) k
     (subst (λ (x : Option Outcome). ShowsIfSome b (CallEntry (b + client) call x) old new r) o s)
 
--- records that are the same
+-- records that are equal
 module _ {A : Type 0} (old new : Records A) (same : new ≡ old) (cs : List Compact) where
   pub seen-kept : (seen : Stored) (start : StartRows) (at limit room : ℕ)
       → viewed start (entries_of at old cs) limit room ≡ seen
@@ -103,7 +103,7 @@ module _ {A : Type 0} (old new : Records A) (same : new ≡ old) (cs : List Comp
   pub recorded-kept : (n : ℕ) → IsRecorded old cs n → IsRecorded new cs n
   recorded-kept n r = subst (λ (x : Records A). IsRecorded x cs n) (sym same) r
 
--- a history that begins anew
+-- a history that goes on from another Start
 pub seen-sealed : {A : Type 0} (seen : Stored) (s t : StartRows) (es : List Entry)
     (at limit room : ℕ) (r : Records A) (cs : List Compact) → viewed s es limit room ≡ seen
     → cs ≡ []

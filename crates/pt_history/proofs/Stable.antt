@@ -18,7 +18,7 @@ use Rattle.pt_history.specs.declared.records.Records.{Records}
 use Rattle.std.proofs.lemmas.List.{map-append}
 use Rattle.std.proofs.lemmas.List.Elements.{All-append}
 
--- a text within the first list
+-- a text within the first of two joined lists
 pub text-stable : (xs ys : List ℕ) (i n : ℕ) → i + n ≤ length xs
     → text_at (xs ++ ys) i n ≡ text_at xs i n
 text-stable xs ys i n h =
@@ -42,7 +42,7 @@ texts-stay xs ys i n m t = record {
 longer : {X : Type 0} (xs ys : List X) (i : ℕ) → i < length xs → i < length (xs ++ ys)
 longer xs ys i h = omega (arith, length-append xs ys)
 
--- what an entry refers to is still there
+-- what an entry refers to is still stored
 pub stays : (p q : Parts) (c : Compact) → IsStored p c → IsStored (joined p q) c
 stays p q (Join k c) s = tt
 stays p q (Named w a n c i) s = text-stays p.texts q.texts i n s
@@ -103,7 +103,7 @@ map-alike f g [] h = refl
 map-alike f g (x ∷ xs) h =
     rw (h 0 x (omega arith), map-alike f g xs (λ k d l. h (suc k) d (omega arith)))
 
--- the entries are still the same, and one more is there
+-- the entries are still the same, and one more follows
 pub decoded-push : (b : ℕ) (p r : Parts) (cs : List Compact) (c : Compact) (e : Entry)
     → HasGrown p r → All (IsStored p) cs → decoded b r c ≡ e
     → map (decoded b r) (cs ++ c ∷ []) ≡ map (decoded b p) cs ++ e ∷ []
@@ -118,7 +118,7 @@ one-stored : (p : Parts) (c : Compact) → IsStored p c → All (IsStored p) (c 
 one-stored p c s zero d l = s
 one-stored p c s (suc k) d l = absurd (omega arith)
 
--- all refer to what is there, and so does one more
+-- all entries refer to what is stored, and so does one more
 pub stored-push : (p r : Parts) (cs : List Compact) (c : Compact) → HasGrown p r
     → All (IsStored p) cs → IsStored r c → All (IsStored r) (cs ++ c ∷ [])
 stored-push p r cs c g a s =

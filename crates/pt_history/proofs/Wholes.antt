@@ -1,4 +1,4 @@
--- Entries that are stored whole, where nothing shorter was stored.
+-- Entries that are stored whole, if nothing shorter was stored.
 use Rattle.std.proofs.Common.{ℕ, ◌≡◌, ◌≤◌, sym, subst, vec_len}
 use Rattle.pt_model.specs.declared.entry.Entry.{Entry}
 use Rattle.pt_history.specs.declared.compact.Compact.{Compact}

@@ -1,4 +1,4 @@
--- Records whose lists stay, with as much memory or more.
+-- Records whose lists are unchanged, with at least as much memory.
 use Rattle.std.proofs.Common.{ℕ, ◌≡◌, ◌+◌, ◌-◌, ◌*◌, ◌<◌, ◌≤◌, refl, ap, sym, subst, arith}
 use Rattle.std.proofs.Common.{vec_len, vec_capacity}
 use Rattle.std.specs.Prelude.{Vec}
@@ -6,7 +6,7 @@ use Rattle.pt_hints.specs.declared.hints.Hints.{Hints}
 use Rattle.pt_history.specs.declared.records.Records.{Records}
 use Rattle.pt_history.specs.Records.{HasRoom, KeepsParts}
 
--- the same elements, in as much memory or more
+-- the same elements, with at least as much memory
 pub record Widened {X A : Type 0} (old new : Vec X A) : Type 0 where
   pub items : new.items ≡ old.items
   pub len : vec_len new ≡ vec_len old
@@ -65,7 +65,7 @@ pub room-for : {A : Type 0} (r : Records A) (n : ℕ)
     → vec_len r.wholes + n ≤ vec_capacity r.wholes → HasRoom r n
 room-for r n t l m w = record { texts = t; limits = l; moments = m; wholes = w }
 
--- growth that there is room for isn't needed, and isn't refused
+-- a growth for which there is room is not needed, and not refused
 pub no-need : (capacity len a b n : ℕ) (P : Type 0) → a ≡ capacity → b ≡ len → a - b < n
     → len + n ≤ capacity → P
 no-need capacity len a b n P e f l h = absurd (omega arith)

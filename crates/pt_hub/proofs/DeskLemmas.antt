@@ -1,4 +1,4 @@
--- A desk stays one at each event.
+-- A desk remains a desk after each event.
 use Rattle.std.proofs.Common.{◌≡◌, ℕ, ◌==◌, Bool, true, false, cond, List, [], Option, Some, None}
 use Rattle.std.proofs.Common.{is_some, refl, sym, ap, ◌∙◌, subst, arith}
 use Rattle.std.specs.Map.{lookup}
@@ -114,7 +114,7 @@ module _ (old new : Kept) (xs ys : List (ℕ × Account)) (d : IsDeskOf old xs) 
       (other-account old new (event.Moment k t) d.starts ok.writes b
       (lookup (nat_eq b) xs) refl refl (λ l. l) (d.accounts b)))
 
--- the accounts alone were written
+-- only the accounts were written
 pub desk-take : (old new : Kept) (xs ys : List (ℕ × Account)) → IsDeskOf old xs → (c : ℕ)
     (w : Account) → new ≡ old → IsAccount old c (Some w) → Wrote xs ys c (Some w) → IsDeskOf new ys
 desk-take old new xs ys d c w same mine wrote =
@@ -130,7 +130,7 @@ desk-take old new xs ys d c w same mine wrote =
     } in
     subst (λ (k : Kept). IsDeskOf k ys) (sym same) there
 
--- the same, where a number was read twice
+-- the same if a number was read twice
 module _ (old : Desk) (new : Kept) (ys : List (ℕ × Account)) (d : IsDesk old)
     (c b : ℕ) (at : c ≡ b) where
   pub desk-died : (a : Applied) → IsWritten (kept old) (event.Death b) new a
@@ -174,7 +174,7 @@ desk-new k xs e a =
       );
     }
 
--- a desk of which nothing has changed
+-- a desk that has not changed
 module _ (d : Desk) (core : Seen) (rows : List (ℕ × Account)) (same : core ≡ d.core)
     (alike : rows ≡ d.accounts) where
   pub desk-kept : IsDesk d → IsDeskOf (shown core) rows

@@ -1,4 +1,4 @@
--- What a join and a call make of a hub.
+-- How each event, and an answer that is taken, changes a hub.
 use Rattle.std.proofs.Common.{◌≡◌, ℕ, Bool, List, [], ◌∷◌, ◌++◌, Some, None, is_some, refl, sym, ap}
 use Rattle.std.proofs.Common.{◌∙◌, subst, cond, Option, false, true}
 use Rattle.pt_types.specs.declared.call.Call.{Call as Asked}
@@ -25,7 +25,7 @@ use Rattle.pt_hub.specs.Hubs.{Dies, HubView, Joins, Sends, Takes, Ticks, answere
 use Rattle.pt_hub.specs.Hubs.{is_pending, takeable, takeable_if}
 use Rattle.pt_hub.proofs.ReceiptLemmas.{pending_push}
 
--- what was applied
+-- an event that was applied
 applies : (old new : Kept) (v : Event) (a : Applied) → IsApplied old v new a
     → Applies old v new
 applies old new v a ok = record { accepted = ok.accepted; writes = ok.written.writes }
@@ -78,7 +78,7 @@ dies old c desk booked a ok wrote =
       opened = refl;
     }
 
--- a client took the answer that it may take
+-- a client took its next answer
 module _ (old : HubView) (before : PassView) (t : Told)
     (next : Some t ≡ next_answer old.desk before.client) where
   abbrev h : History

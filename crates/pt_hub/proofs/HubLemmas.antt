@@ -1,4 +1,4 @@
--- A hub stays one at each event.
+-- A hub remains a hub after each event.
 use Rattle.std.proofs.Common.{◌≡◌, ℕ, ◌+◌, ◌<◌, ◌≤◌, ◌^◌, [], sym, ap, ◌∙◌, subst, arith}
 use Rattle.std.specs.Prelude.{Result, Ok, Err, IfOk, OnErr}
 use Rattle.pt_types.specs.declared.outcome.Refusal.{Refusal}
@@ -17,7 +17,7 @@ use Rattle.pt_hub.specs.Hubs.{HubView, TallyView, IsHub}
 use Rattle.pt_hub.proofs.AppliedLemmas.{outer-applied, place-applied}
 use Rattle.pt_hub.proofs.SealedDesks.{outer-opened, place-opened, starts-opened}
 
--- an event adds one outer entry, after a seal too
+-- an event adds one outer entry, even after a seal
 module _ (k new : Kept) (v : Event) (a : Applied) (b : IsStart k.start)
     (legal : LegalBehind k.start k.entries (events_of k.entries))
     (ok : IsApplied k v new a) where
@@ -47,7 +47,7 @@ module _ (old new : HubView) (s t : TallyView) (k : IsHub old s) where
         sessions = omega (arith, k.sessions, same);
       }
 
-  -- one event more was counted, and one part at most was given away
+  -- one more event was counted, and at most one part was given away
   pub hub-more : (v : Event) (a : Applied) → IsStart (kept old.desk).start
       → LegalBehind (kept old.desk).start (kept old.desk).entries
       (events_of (kept old.desk).entries)
@@ -86,7 +86,7 @@ module _ (old : HubView) (new : Desk) (t : TallyView) (k : IsHub old t) where
   pub hub-kept : new ≡ old.desk → IsHub (record old { desk = new }) t
   hub-kept same = subst (λ (d : Desk). IsHub (record old { desk = d }) t) (sym same) k
 
-  -- an answer was taken, which leaves the core as it was
+  -- an answer was taken, which leaves the core unchanged
   pub hub-took : new.core ≡ old.desk.core → IsHub (record old { desk = new }) t
   hub-took same =
       subst (λ (s : Seen). IsHub
@@ -110,7 +110,7 @@ hub-new v t k none booked zero parts =
       sessions = omega (arith, none);
     }
 
--- a further event can be counted, and whoever has a part of the ledger counts it
+-- one more event can be counted by each owner of a part of the ledger
 pub countable : (n o p : ℕ) → n ≡ o → o ≤ p → p ≤ most_places + most_entries → n < 2 ^ 63
 countable n o p same few within = omega arith
 

@@ -1,22 +1,22 @@
--- AppliedLemmas: what an accepted event makes of what is read off the history
+-- AppliedLemmas: how an accepted event changes what is read off the history
 pub mod AppliedLemmas
--- AccountLemmas: what an accepted event makes of a client's account
+-- AccountLemmas: how an accepted event changes a client's account
 pub mod AccountLemmas
 -- SealedDesks: a desk whose history is sealed
 pub mod SealedDesks
 -- ReadingLemmas: what is read off an account
 pub mod ReadingLemmas
--- SeenLemmas: the same, for a desk and a client that are each written in two ways
+-- SeenLemmas: what is read off a desk for a client, if each of them is written in two ways
 pub mod SeenLemmas
--- DeskLemmas: a desk stays one at each event
+-- DeskLemmas: a desk remains a desk after each event
 pub mod DeskLemmas
--- OpenedDesks: the same if the event seals the history
+-- OpenedDesks: a desk remains a desk after each event, even if the history is sealed for it first
 pub mod OpenedDesks
--- HubLemmas: a hub stays one at each event
+-- HubLemmas: a hub remains a hub after each event
 pub mod HubLemmas
--- HubEvents: what a join and a call make of a hub
+-- HubEvents: how each event, and an answer that is taken, changes a hub
 pub mod HubEvents
--- FindLemmas: the least place of two kinds, and of what is found item by item
+-- FindLemmas: the least place of either of two kinds, and of what is found item by item
 pub mod FindLemmas
 -- ClaimLemmas: what a client says that it did, by index
 pub mod ClaimLemmas
@@ -28,9 +28,9 @@ pub mod ForkLemmas
 pub mod ReceiptLemmas
 -- OrderedAccounts: the accounts in the order of their clients' numbers
 pub mod OrderedAccounts
--- AskedAnswers: the answer that a client may take once it has made a call
+-- AskedAnswers: the answer that a client may take after it has made a call
 pub mod AskedAnswers
--- TakenSums: the sum over the first items of a list, with one item more
+-- TakenSums: the sum over the first items of a list, after one more item
 pub mod TakenSums
--- KnownRefusals: why an event is refused, and what follows where it doesn't
+-- KnownRefusals: why an event is refused, and what follows if it isn't
 pub mod KnownRefusals

@@ -1,4 +1,4 @@
--- A desk stays one at each event, before which the history is sealed if the event needs that.
+-- A desk remains a desk after each event, even if the history is sealed for it first.
 use Rattle.std.proofs.Common.{◌≡◌, ℕ, ◌≤◌, Bool, true, false, cond, nat_eq, List, Option, Some}
 use Rattle.std.proofs.Common.{None, is_some, refl, sym, ap, ◌∙◌, subst, ◌==◌, arith}
 use Rattle.std.proofs.lemmas.Bool.Decides.{nat_tests}
@@ -25,7 +25,7 @@ use Rattle.pt_hub.proofs.DeskLemmas.{desk-join, desk-call, desk-moment}
 use Rattle.pt_hub.proofs.ReadingLemmas.{caller-known, caller-idle, unblocked-refusal}
 use Rattle.pt_hub.proofs.SealedDesks.{lookup-renewed, opened-desk, place-opened, sealed-desk}
 
--- a caller's account, of accounts that may be renewed
+-- the account of a caller that awaits no answer, among accounts that may be renewed
 record IsIdle (o : Option Account) : Type 0 where
   pub account : Account
   pub there : o ≡ Some account
@@ -41,12 +41,12 @@ idle true xs c w e free =
     }
 idle false xs c w e free = record { account = w; there = e; free = free }
 
--- the event's place is the next one, after a seal too
+-- the event's place is the next one, even after a seal
 pub first-opened : (k new : Kept) (v : Event) (a : Applied) → IsApplied k v new a
     → a.first ≡ place (past k)
 first-opened k new v a ok = ok.written.first ∙ place-opened k v
 
--- without a seal the entries were added to the old ones
+-- without a seal, the entries were added to the old ones
 pub written-unsealed : (k new : Kept) (v : Event) (a : Applied) → IsApplied k v new a
     → a.sealed ≡ None → IsWritten k v new a
 written-unsealed k new v a ok quiet =
@@ -145,7 +145,7 @@ module _ (old seen : Desk) (same : old ≡ seen) (d : IsDesk old) (c b : ℕ)
         (subst (λ es. Wrote es ys c (awaiting (lookup (nat_eq c) es)))
         (rows-opened (kept old) new old.accounts zs (event.Call c call) a ok_of is) wrote))
 
-    -- the answer that may be taken then is the one to this call
+    -- the answer that may be taken next is the one to this call
     pub next-called : (core : Seen) → shown core ≡ new
         → next_answer (record { core = core; accounts = ys }) b ≡ told_if b a.first a.outcome
     next-called core e =

@@ -1,3 +1,3 @@
 mod Pieces
--- Tallies: what a device has counted, after one call more
+-- Tallies: what a device has counted after one more call
 mod Tallies

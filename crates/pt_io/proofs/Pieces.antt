@@ -1,4 +1,4 @@
--- A piece of a row of bytes, copied from place at on: what was given grows by it, and what is left
+-- A piece of some bytes, copied from index `at` on: what was given grows by it, and what remains
 -- loses it.
 use Rattle.std.proofs.Common.{◌≡◌, ℕ, ◌+◌, ◌≤◌, List, ◌++◌, take, drop, sym, ap, ◌∙◌}
 use Rattle.std.proofs.Common.{take-append-drop, drop-drop, take-add, take-take}

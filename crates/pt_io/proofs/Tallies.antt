@@ -1,4 +1,4 @@
--- What a device has counted, after one call more.
+-- What a device has counted after one more call.
 use Rattle.std.proofs.Common.{◌≡◌, ℕ, ◌+◌, ◌-◌, ◌≤◌, List, [], ◌∷◌, ◌++◌, length, take}
 use Rattle.std.proofs.Common.{Option, Some, None, Result, Ok, Err, sym, ap, ◌∙◌, arith}
 use Rattle.std.proofs.Common.{length-append}
@@ -14,13 +14,13 @@ one_call rows new x is len more =
     ∙ ap (λ n. n + 1) (sym len)
     ∙ ap (λ t. t.reads + 1) is
 
--- bytes that are noted
+-- bytes are appended to those that a device has noted
 pub grown_as : {D : Type 0} {old now : Tally D} (log grown piece : List ℕ) → old ≡ now
     → old.bytes ≡ log → grown ≡ log ++ piece → grown ≡ now.bytes ++ piece
 grown_as log grown piece is same more =
     more ∙ ap (λ bytes. bytes ++ piece) (sym same ∙ ap (λ t. t.bytes) is)
 
--- all bytes but those that came now
+-- all bytes except those that came just now
 all_but_piece : (log piece : List ℕ) → all_but (length piece) (log ++ piece) ≡ log
 all_but_piece log piece =
     let long = length-append log piece in
@@ -48,7 +48,7 @@ all_but_none log begun is same none =
     ∙ sym same
     ∙ ap (λ t. t.bytes) is
 
--- all bytes but those since the latest flush
+-- all bytes except those since the latest flush
 pub all_but_more : {D : Type 0} {old now : Tally D} (log grown latest more piece : List ℕ)
     → old ≡ now → old.bytes ≡ log → old.recent ≡ length latest → grown ≡ log ++ piece
     → more ≡ latest ++ piece → all_but (length more) grown ≡ all_but now.recent now.bytes

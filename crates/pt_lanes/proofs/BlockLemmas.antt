@@ -48,7 +48,7 @@ get_or-first_chunks n (suc k) (suc j) xs h =
     get_or-first_chunks n k j (drop n xs) (omega arith)
     ∙ ap (take n) (drop-drop (j * n) n xs ∙ ap (λ m. drop m xs) (omega arith))
 
--- a count above index a, read among those above it
+-- a count at index a or above, read among those from a on
 from_above : (xs : List ℕ) (a i : ℕ) → a ≤ i → get_or xs i 0 ≡ get_or (drop a xs) (i - a) 0
 from_above xs a i le =
     let at : a + (i - a) ≡ i = omega arith in
@@ -57,13 +57,13 @@ from_above xs a i le =
 pub NoneFrom-drop : (xs : List ℕ) (a m : ℕ) → NoneFrom (drop a xs) m → NoneFrom xs (a + m)
 NoneFrom-drop xs a m h i le = from_above xs a i (omega arith) ∙ h (i - a) (omega arith)
 
--- and one within a block
+-- and one in the block that begins there
 from_block : (xs : List ℕ) (a n i : ℕ) → a ≤ i → i < a + n
     → get_or xs i 0 ≡ get_or (take n (drop a xs)) (i - a) 0
 from_block xs a n i le lt =
     from_above xs a i le ∙ sym (get_or-take n (drop a xs) (i - a) 0 (omega arith))
 
--- where the counts of a block from m on are zero, and all above the block
+-- if the counts of a block from m on are zero, and all above the block, so are all from there on
 pub NoneFrom-block : (xs : List ℕ) (a n m : ℕ)
     → NoneFrom (take n (drop a xs)) m → NoneFrom xs (a + n) → NoneFrom xs (a + m)
 NoneFrom-block xs a n m h above i le = go (nat_lt i (a + n)) refl
@@ -72,7 +72,7 @@ NoneFrom-block xs a n m h above i le = go (nat_lt i (a + n)) refl
     go true e = from_block xs a n i (omega arith) (grind arith) ∙ h (i - a) (omega arith)
     go false e = above i (grind arith)
 
--- the highest of a block, where no count above the block is set
+-- the highest count of a block that is set is the highest of all, if none above the block is set
 pub highest-block : (xs : List ℕ) (a n i : ℕ) → NoneFrom xs (a + n)
     → (get_or (take n (drop a xs)) i 0 ≢ 0) × NoneFrom (take n (drop a xs)) (i + 1)
     → (get_or xs (a + i) 0 ≢ 0) × NoneFrom xs (a + i + 1)

@@ -1,2 +1,2 @@
--- SealRoom: which room an event has that needs a seal, and that a seal changes no other refusal
+-- SealRoom: the room of an event that needs a seal, and the refusal of one that needs none
 pub mod SealRoom

@@ -1,4 +1,4 @@
--- What it means for the room of an event that it needs a seal, or none.
+-- The room of an event that needs a seal, and the refusal of one that needs none.
 use Rattle.std.proofs.Common.{◌≡◌, ℕ, ◌+◌, ◌≤◌, ◌<◌, Bool, true, false, cond, nat_le, nat_lt, ◌&&◌}
 use Rattle.std.proofs.Common.{◌||◌, Some, None, sym, ap, ◌∙◌, arith}
 use Rattle.std.proofs.lemmas.Bool.Decides.{nat_tests}
@@ -10,19 +10,19 @@ use Rattle.pt_model.specs.Histories.{History, ◌▷◌, place, held}
 use Rattle.pt_model.specs.Room.{refusal, entry_for, is_over, room_for, needs_seal}
 use Rattle.pt_model.specs.Room.{refusal_within, refusal_with_seals}
 
--- a limit is passed without a seal, and not after one
+-- the limit is exceeded without a seal, and not with one
 passes : (limit held room : ℕ) → (nat_lt limit (held + room) && nat_le room limit) ≡ true
     → (limit < held + room) × (room ≤ limit)
 passes limit held room e = grind (arith, nat_tests)
 
--- room that is above a limit, or a seal that isn't needed: the limit is passed as it stands
+-- if no seal is needed, the limit is exceeded exactly if it would be without seals
 over : (limit held room : ℕ) (places : Bool)
     → (nat_lt limit (held + room) && nat_le room limit) ≡ false
     → (nat_lt limit room || ((nat_lt limit (held + room) && nat_le room limit) && places))
     ≡ nat_lt limit (held + room)
 over limit held room places e = grind (arith, nat_tests)
 
--- what is within the limit does not pass it
+-- what is within the limit does not exceed it
 pub none-over : (limit all : ℕ) → all ≤ limit → nat_lt limit all ≡ false
 none-over limit all l = grind (arith, nat_tests)
 
@@ -35,7 +35,7 @@ module _ (limit : ℕ) (h : History) (v : Event) where
   over_as_it_stands : is_over limit (h ▷ entry_for h v) ≡ nat_lt limit (held h + room_for h v)
   over_as_it_stands = ap (nat_lt limit) (omega arith)
 
-  -- one that needs none is refused as without seals
+  -- an event that needs no seal is refused as it would be without seals
   pub refused-without : needs_seal limit h v ≡ false
       → refusal_with_seals limit h v ≡ refusal_within limit h v
   refused-without e =

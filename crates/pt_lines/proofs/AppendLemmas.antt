@@ -3,7 +3,7 @@ use Rattle.std.proofs.Common.{◌≡◌, ◌<◌, ◌≤◌, ◌+◌, ◌∙◌,
 use Rattle.std.proofs.Common.{ap, sym, append_assoc}
 use Rattle.std.proofs.lemmas.List.{take_more, take_all}
 
--- a piece by another name, after bytes by another name
+-- the same with other names for the bytes
 pub append-same :
     (before out all bytes text : List ℕ) → before ≡ out → bytes ≡ text → all ≡ before ++ bytes
     → all ≡ out ++ text
@@ -23,13 +23,13 @@ append-byte out now next bytes i lt so pushed =
     append-two out now next (take i bytes) (get_or bytes i 0 ∷ []) so pushed
     ∙ ap (λ xs. out ++ xs) (sym (take_more bytes i 0 lt))
 
--- all bytes of it
+-- all bytes of the text
 pub append-all :
     (out now bytes : List ℕ) (i : ℕ) → length bytes ≤ i → now ≡ out ++ take i bytes
     → now ≡ out ++ bytes
 append-all out now bytes i le so = so ∙ ap (λ xs. out ++ xs) (take_all i bytes le)
 
--- an answer, whose client, number and word come one after another
+-- an answer's client, number and word, appended one after another
 pub append-reply :
     (out o1 o2 o3 from digits word : List ℕ) → o1 ≡ out ++ from → o2 ≡ o1 ++ digits
     → o3 ≡ o2 ++ (32 ∷ word ++ 10 ∷ []) → o3 ≡ out ++ (from ++ digits ++ 32 ∷ word ++ 10 ∷ [])

@@ -1,4 +1,4 @@
--- CutLemmas: lines by the bytes that they begin with.
+-- CutLemmas: the lines of bytes, by the first bytes of a line.
 use Rattle.std.proofs.Common.{◌≡◌, ◌≢◌, ◌<◌, ◌≤◌, ◌+◌, ◌∙◌, ◌==◌, ℕ, suc, Bool, true, false, cond}
 use Rattle.std.proofs.Common.{nat_le, nat_lt, List, [], ◌∷◌, ◌++◌, length, take, drop, get_or, refl}
 use Rattle.std.proofs.Common.{map, Result}
@@ -34,7 +34,7 @@ lines_after-byte :
 lines_after-byte [] b bytes = refl
 lines_after-byte (x ∷ begun) b bytes = refl
 
--- a byte that is no newline goes on the line
+-- a byte other than a newline continues the line
 lines_after-other :
     (begun : List ℕ) (b : ℕ) (bytes : List ℕ) → b ≢ 10
     → lines_after begun (b ∷ bytes) ≡ lines_after (begun ++ b ∷ []) bytes
@@ -43,7 +43,7 @@ lines_after-other begun b bytes ne =
     lines_after-byte begun b bytes
     ∙ ap (λ t. cond t ended (lines_after (begun ++ b ∷ []) bytes)) (not_newline b ne)
 
--- bytes without a newline go on the line
+-- bytes without a newline continue the line
 pub lines_after-append :
     (begun xs ys : List ℕ) → NoNewline xs
     → lines_after begun (xs ++ ys) ≡ lines_after (begun ++ xs) ys
@@ -101,7 +101,7 @@ lines_past_newline-append (x ∷ xs) ys h =
     (not_newline x (h 0 (omega arith)))
     ∙ lines_past_newline-append xs ys (tail_has_none x xs h)
 
--- a newline is passed
+-- the newline is passed over
 pub lines_past_newline-newline :
     (xs ys : List ℕ) → NoNewline xs → lines_past_newline (xs ++ 10 ∷ ys) ≡ lines ys
 lines_past_newline-newline xs ys h = lines_past_newline-append xs (10 ∷ ys) h
@@ -126,7 +126,7 @@ NoNewline-take xs i f k lt e =
     let small : k < i = grind (arith, common_steps) in
     f.before k small (sym (get_or-take i xs k 0 small) ∙ e)
 
--- what memchr finds
+-- the newline that memchr finds is the first
 pub first_at : (xs : List ℕ) (i : ℕ) → IsFirstByte (is_byte 10) xs (Some i) → FirstAt xs i
 first_at xs i h = record {
   within = h.0.high;
@@ -153,7 +153,7 @@ first_in_front xs n i h =
       small,
     )
 
--- what is after the first newline
+-- the lines after the first newline
 pub past_first :
     (xs : List ℕ) (i : ℕ) → FirstAt xs i → (more : List ℕ)
     → lines_past_newline (xs ++ more) ≡ lines (drop (i + 1) xs ++ more)
@@ -162,7 +162,7 @@ past_first xs i f more =
     ∙ ap lines_past_newline (append_assoc (take i xs) (10 ∷ drop (i + 1) xs) more)
     ∙ lines_past_newline-newline (take i xs) (drop (i + 1) xs ++ more) (NoNewline-take xs i f)
 
--- what is before it is the first line
+-- the bytes before the first newline are the first line
 pub first_line :
     (xs : List ℕ) (i : ℕ) → FirstAt xs i → i ≤ 128
     → (text : List ℕ) → text ≡ take i xs → (more : List ℕ)
@@ -205,7 +205,7 @@ front_of held n (Some i) keeps few h =
 abbrev held_of : List ℕ → Bool → Held
 held_of rest dropping = record { rest = rest; dropping = dropping }
 
--- what is given of a line that is read where it lies
+-- the next line is given, if it is read in place
 given_in_place :
     (old : Held) (rest : List ℕ) (dropping : Bool) (end : ℕ) → IsFront old end
     → rest ≡ drop (end + 1) old.rest → dropping ≡ old.dropping → (more : List ℕ)
@@ -223,7 +223,7 @@ cut_in_place :
 cut_in_place old end front =
     cut_of-short (take end old.rest) (take_short end old.rest front.short)
 
--- a line of a script that is read where it lies
+-- a line of a script that is read in place
 pub read_in_place :
     (old : Held) (rest : List ℕ) (dropping : Bool) (end : ℕ) (line : ScriptLine)
     → IsFront old end → line ≡ script_read (take end old.rest) → rest ≡ drop (end + 1) old.rest
@@ -235,7 +235,7 @@ read_in_place old rest dropping end line front is past same = record {
   given = given_in_place old rest dropping end front past same;
 }
 
--- a line of a connection that is read where it lies
+-- a line of a connection that is read in place
 pub called_in_place :
     (old : Held) (rest : List ℕ) (dropping : Bool) (end : ℕ) (reading : Result CallLine Refusal)
     → IsFront old end → reading ≡ call_read (take end old.rest)
@@ -267,7 +267,7 @@ too_long_by n xs big le none more =
     ∙ lines_after-append [] (take n xs) (drop n xs ++ more) none
     ∙ lines_after-long (take n xs) (drop n xs ++ more) (omega (arith, front_len n xs le))
 
--- 129 bytes without a newline are of a line that is too long
+-- 129 bytes without a newline belong to a line that is too long
 pub too_long :
     (n : ℕ) (xs ys : List ℕ) → n ≡ 129 → n ≤ length xs → NoNewline (take n xs)
     → ys ≡ drop 129 xs
@@ -293,7 +293,7 @@ by_state rest true none short dropped some =
     absurd (omega arith)
 by_state rest false none short dropped some = last_line rest none short some
 
--- what is left at the end is the last line
+-- the bytes that remain at the end are the last line
 pub at_end :
     (held : Held) → IsBegun held → 0 < length held.rest
     → (text : List ℕ) → text ≡ held.rest
@@ -302,7 +302,7 @@ at_end held h some text is =
     by_state held.rest held.dropping h.no_newline h.short h.dropped some
     ∙ ap (λ t. Line (record { items = t }) ∷ []) (sym is)
 
--- the lines of texts and a rest
+-- the lines of texts, and of the bytes after them
 pub lines-joined :
     (texts : List (List ℕ)) (rest : List ℕ) → AllTexts texts → NoNewline rest
     → lines (joined texts rest) ≡ map cut_of texts ++ last_of rest
@@ -313,7 +313,7 @@ lines-joined (text ∷ texts) rest all none =
     lines_after-newline [] text (joined texts rest) all.0
     ∙ ap (λ ls. cut_of text ∷ ls) (lines-joined texts rest all.1 none)
 
--- what is left where a line and its newline are dropped
+-- the bytes that remain after a line and its newline are dropped
 pub front_dropped :
     (inside old : Held) (rest : List ℕ) (end : ℕ) → inside ≡ old → IsFront old end
     → rest ≡ drop (end + 1) inside.rest

@@ -55,7 +55,7 @@ pub length_more :
     (n : ℕ) → 100 ≤ n → n < 2 ^ 64 → length (decimal n) ≡ length (decimal (n / 100)) + 2
 length_more n le fits = ap length (decimal_pair n le fits) ∙ length-append (decimal (n / 100)) _
 
--- four digits at the end
+-- the last four digits
 pub decimal_two_pairs :
     (n : ℕ) → 10000 ≤ n → n < 2 ^ 64
     → decimal n ≡ decimal (n / 10000) ++ (pair (n / 100 % 100) ++ pair (n % 100))
@@ -66,7 +66,7 @@ decimal_two_pairs n le fits =
     ∙ ap (λ m. (decimal m ++ pair (n / 100 % 100)) ++ pair (n % 100)) same
     ∙ append_assoc (decimal (n / 10000)) (pair (n / 100 % 100)) (pair (n % 100))
 
--- the same, where each pair is what is left of a difference
+-- a pair of digits, computed by a difference
 pub pair_left : (n : ℕ) → n - 100 * (n / 100) ≡ n % 100
 pair_left n = omega arith
 
@@ -89,7 +89,7 @@ length_four_more n le fits =
 pub few_digits : (n : ℕ) → n < 1000000 → length (decimal n) ≤ 6
 few_digits n lt = length-decimal-le 6 n (omega arith) lt (omega arith)
 
--- three pieces that are appended
+-- three pieces that are appended one after another
 pub joined :
     (out o1 o2 o3 a b c : List ℕ) → o1 ≡ out ++ a → o2 ≡ o1 ++ b → o3 ≡ o2 ++ c
     → o3 ≡ out ++ (a ++ (b ++ c))
@@ -99,7 +99,7 @@ joined out o1 o2 o3 a b c e1 e2 e3 =
     ∙ append_assoc (out ++ a) b c
     ∙ append_assoc out a (b ++ c)
 
--- what is kept of bytes that are appended
+-- bytes were appended to a text, and it is cut to no less than its old length
 pub take-appended :
     (out bytes : List ℕ) (n k : ℕ) → n ≡ length out + k
     → take n (out ++ bytes) ≡ out ++ take k bytes

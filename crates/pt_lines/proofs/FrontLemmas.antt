@@ -1,4 +1,4 @@
--- The front of the bytes that a cutter holds, and what is left after it.
+-- The front of the bytes that a cutter holds, and the bytes that remain after it.
 use Rattle.std.proofs.Common.{◌≡◌, ℕ, ◌+◌, ◌<◌, ◌≤◌, ◌==◌, Bool, true, false, cond, List, []}
 use Rattle.std.proofs.Common.{◌∷◌, ◌++◌, length, take, drop, min, refl}
 use Rattle.std.proofs.Common.{ap, sym, ◌∙◌, arith, length-drop}
@@ -6,7 +6,7 @@ use Rattle.std.proofs.lemmas.Bool.{eqb-true}
 use Rattle.std.proofs.lemmas.List.{length-take-le, take_all}
 use Rattle.pt_grammar.specs.Lines.{Held, lines, lines_past_newline, to_come}
 
--- a piece that begins bytes
+-- the length of a piece at the start of bytes
 pub front_of : (n : ℕ) (xs ys : List ℕ) → xs ≡ ys → n ≤ length ys → n ≡ length (take n xs)
 front_of n xs ys same within =
     sym (ap (λ zs. length (take n zs)) same ∙ length-take-le n ys within)
@@ -19,7 +19,7 @@ front_within n count xs ys same is within =
 pub least_within : (n count most : ℕ) → n ≡ min count most → n ≤ count
 least_within n count most is = omega (arith, is)
 
--- what is left after a line
+-- fewer bytes remain after a line
 pub left_less : (n : ℕ) (xs ys : List ℕ) → ys ≡ drop (n + 1) xs → n < length xs
     → length ys < length xs
 left_less n xs ys is within = omega (arith, ap length is, length-drop (n + 1) xs)
@@ -33,13 +33,13 @@ one_more n m less = omega arith
 pub front_before : (n : ℕ) (xs ys : List ℕ) → xs ≡ ys → n < length ys → n ≡ length (take n xs)
 front_before n xs ys same within = front_of n xs ys same (omega arith)
 
--- a line that is found among so many bytes is short
+-- a line that ends within the first 129 bytes is short
 pub short_front : (n count long : ℕ) (xs ys : List ℕ) → xs ≡ ys → n < length ys → n < count
     → count ≡ min long 129 → length (take n xs) ≤ 128
 short_front n count long xs ys same within low is =
     let front = front_before n xs ys same within in omega (arith, low, is, front)
 
--- few bytes are all of them
+-- if at most 128 bytes were looked at, those are all
 pub few_held : (count long : ℕ) (xs : List ℕ) → count ≡ min long 129 → long ≡ length xs
     → count ≤ 128 → (length xs ≤ 128) × (take count xs ≡ xs)
 few_held count long xs is all few =
@@ -48,7 +48,7 @@ few_held count long xs is all few =
 pub left_none : (xs ys : List ℕ) → ys ≡ [] → length ys ≤ length xs
 left_none xs ys is = let none = ap length is in omega (arith, none)
 
--- where nothing is held, no line is to come
+-- if nothing is held, no line is to come
 pub nothing_held : (xs : List ℕ) (held : Held) → true ≡ (length xs == 0) → xs ≡ held.rest
     → to_come held [] ≡ []
 nothing_held (x ∷ xs) held empty same =

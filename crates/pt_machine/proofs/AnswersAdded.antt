@@ -11,7 +11,7 @@ use Rattle.pt_history.specs.Stored.{Stored, past_of}
 use Rattle.pt_history.proofs.Places.{place_of_next}
 use Rattle.pt_state.specs.Adds.{pushed}
 
--- the answers of two entries that were added are those of the one and then of the other
+-- the answers of two added entries are those of the first, followed by those of the second
 pub answers-two : (old mid new : Stored) (e f : Entry) → mid ≡ pushed old e → new ≡ pushed mid f
     → answers_behind (reads_of new.start) (place (past_of old)) new.entries
     ≡ told_in (past_of old) e ++ (told_in (past_of old ▷ e) f ++ [])

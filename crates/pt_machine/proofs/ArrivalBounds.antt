@@ -1,4 +1,4 @@
--- What waits arrived before the next entry, at an object that exists.
+-- Each waiting call arrived before the next entry, at an object that exists.
 use Rattle.std.proofs.Common.{Bool, true, false, cond, ◌≡◌, ℕ, suc, ◌<◌, inl, inr, List, [], ◌∷◌}
 use Rattle.std.proofs.Common.{Option, Some, None, is_some, refl, sym, subst, arith}
 use Rattle.std.specs.List.{AllByRecursion as Each}
@@ -22,7 +22,7 @@ use Rattle.pt_model.proofs.Sound.{Fresh-follows, below_open}
 use Rattle.pt_model.proofs.Seats.{seat, housed}
 use Rattle.pt_machine.specs.Queued.{waiter}
 
--- a wait was moved by an entry of the history
+-- a call was moved by an entry of the history, also after one more entry
 moved_step : (h : History) (e : Entry) (j : ℕ) (v : Move)
     → (moved h j ≡ Some v → v.at < place h) → moved (h ▷ e) j ≡ Some v → v.at < place (h ▷ e)
 moved_step h e j v before m = go (cause_by h (moved h) e j) (moved h j) before m
@@ -43,7 +43,7 @@ moved-below h f =
     (λ j v e. absurd cc) (λ h e f b s j v m. moved_step h e j v (b j v) m)
     (λ h f b j v m. b j v (kept_move (has_place (open_calls h) j) (moved h j) v m)) h f
 
--- an open call arrived by an entry of the history
+-- an open call arrived with an entry of the history
 pub arrival-below : (h : History) → Follows h → (w : WaitingCall) → In w (open_calls h)
     → (arrival_by (moved h w.place) w.place).0 < place h
 arrival-below h f w i = go (moved h w.place) refl
@@ -52,7 +52,7 @@ arrival-below h f w i = go (moved h w.place) refl
     go None e = (below_open h w (Fresh-follows h f) i).0
     go (Some v) e = moved-below h f w.place v e
 
--- so did each that waits in a queue
+-- so did each waiter in a queue
 pub waiters-below :
     (h : History) (queue : ℕ → List Waiter) → Follows h
     → Members (at_object h) (waiter h) (open_calls h) queue

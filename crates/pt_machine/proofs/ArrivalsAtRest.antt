@@ -42,7 +42,7 @@ use Rattle.pt_machine.proofs.QueuedSame.{past-adds}
 
 module _ (h : History) (f : Follows h) (c : ℕ) (call : Asked) (n : List ℕ)
     (asks : operation call ≡ Arrives n) (s : Step h (Call c call None)) where
-  -- after the arrival
+  -- the history after the arrival
   abbrev after : History
   after = h ▷ Call c call None
 
@@ -80,7 +80,7 @@ module _ (h : History) (f : Follows h) (c : ℕ) (call : Asked) (n : List ℕ)
       (neither (forced_service h) (option_or (forced_yield h) (forced_expire h))
       known.quiet).1).1
 
-  -- each mutex has the owner that it had
+  -- no mutex changes its owner
   same_owner : (m : ℕ) → owner after m ≡ owner h m
   same_owner m = owner-same h (Call c call None) m f (λ d. ap (nat_lt 0) (kept d))
     where
@@ -103,7 +103,7 @@ module _ (h : History) (f : Follows h) (c : ℕ) (call : Asked) (n : List ℕ)
   no_yield =
       ap yield_if (first_below-none (is_orphan after) (place after) (λ m lt. no_orphan m))
 
-  -- what can be served waits at the barrier
+  -- the object that the arrival touches is its barrier
   touches : touched after ≡ Some (meant h n BarrierClass)
   touches = ap (goal_of_operation h) asks
 
@@ -111,14 +111,14 @@ module _ (h : History) (f : Follows h) (c : ℕ) (call : Asked) (n : List ℕ)
   serves_there =
       serves_touched after (f, s) ∙ ap (λ o. service_if after (candidate_if after o)) touches
 
-  -- so if nothing is served there, nothing must follow
+  -- so if no call is served there, nothing must follow
   pub rests-there : candidate after (meant h n BarrierClass) ≡ None → forced after ≡ None
   rests-there none =
       ap (λ y. option_or y (option_or (forced_yield after) (forced_expire after)))
       (serves_there ∙ ap (service_if after) none)
       ∙ (ap (λ y. option_or y (forced_expire after)) no_yield ∙ no_expire)
 
-  -- and what is served there must follow
+  -- and if a call is served there, the entry that serves it must follow
   pub serves-there : (w : WaitingCall) → candidate after (meant h n BarrierClass) ≡ Some w
       → forced after ≡ Some (service after w)
   serves-there w is =
@@ -138,13 +138,13 @@ module _ {A : Type 0} (old new : State A) (c : ℕ) (call : Asked) (n : List ℕ
         ap (λ (h : History). candidate h b) same
         ∙ ap (candidate (past old ▷ Call c call None)) at
 
-    -- nothing must follow the arrival if nothing is served at its barrier
+    -- nothing must follow the arrival if no call is served at its barrier
     pub rests-arrived : candidate (past new) b ≡ None → forced (past new) ≡ None
     rests-arrived none =
         ap forced same
         ∙ rests-there (past old) ready.read.follows c call n asks ready.step (sym there ∙ none)
 
-    -- what is served there must follow it
+    -- if a call is served there, the entry that serves it must follow the arrival
     pub serves-arrived : (w : WaitingCall) → candidate (past new) b ≡ Some w
         → forced (past new) ≡ Some (service (past new) w)
     serves-arrived w is =

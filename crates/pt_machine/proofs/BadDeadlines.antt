@@ -1,4 +1,4 @@
--- A call whose deadline is no time is answered at once, or is granted by the next entry.
+-- A call whose deadline is not a time is answered at once, or is granted by the next entry.
 use Rattle.std.proofs.Common.{◌≡◌, ℕ, suc, ◌⊎◌, inl, inr, nat_lt, nat_le, Bool, true, false, cond}
 use Rattle.std.proofs.Common.{not, ◌&&◌, ◌||◌, ◌==◌, List, [], ◌∷◌, ◌++◌, length, Option, Some}
 use Rattle.std.proofs.Common.{None, is_none, is_some, refl, sym, ap, ◌∙◌, subst, arith, filter}
@@ -56,7 +56,7 @@ use Rattle.pt_model.proofs.Forcing.{served-least}
 use Rattle.pt_machine.specs.Timed.{asked}
 use Rattle.pt_machine.proofs.BadVerdicts.{is_for_lock, lock_role, call_bad}
 
--- a call that an effect leaves waiting is its own
+-- an effect that leaves a call waiting is the wait of that call
 left_waits : (E : Effect) (w : WaitingCall) → In w (left_by E) → E ≡ Waits w
 left_waits (Waits u) w (inl i) = ap Waits (sym i)
 left_waits (Waits u) w (inr i) = absurd i
@@ -69,7 +69,7 @@ left_waits (Mends m) w i = absurd i
 left_waits (Returns r) w i = absurd i
 left_waits (Wakes n all) w i = absurd i
 
--- what a mutex lets a client have but for the order of calls
+-- whether a client may have a mutex, apart from the order of calls
 abbrev may_from : Consistency → Option ℕ → Option ObjectKind → ℕ → Bool
 may_from k o kind d =
     (is_lost k || (is_none o && true)) || (is_recursive (mutex_kind kind) && is_number o d)
@@ -78,7 +78,7 @@ module _ (h : History) (f : Follows h) (c : ℕ) (call : Asked) (n : forced h �
     (a : is_alive h c ≡ true) (o : open_place h c ≡ None) (w : WaitingCall)
     (e : effect h c call (reply (verdict h c call)) ≡ Waits w)
     (l : is_for_lock w.role ≡ true) where
-  -- after the call
+  -- the history after the call
   abbrev g : History
   g = h ▷ Call c call (reply (verdict h c call))
 
@@ -150,7 +150,7 @@ module _ (h : History) (f : Follows h) (c : ℕ) (call : Asked) (n : forced h �
       subst (λ (us : List WaitingCall). In w us) (sym open_after)
       (In-append_right w (open_calls h) (w ∷ []) (inl refl))
 
-  -- who held readers back does so still
+  -- readers that were held back still are
   blocked_still : (r p : ℕ) → is_blocked h r p ≡ true → is_blocked g r p ≡ true
   blocked_still r p t =
       let x = any-in (λ (v : WaitingCall). holds_back v p) (waiting_at h r) t in
@@ -159,7 +159,7 @@ module _ (h : History) (f : Follows h) (c : ℕ) (call : Asked) (n : forced h �
       (filter-in (λ (v : WaitingCall). at_object g v == r) (open_calls g) x.0
       (open_still x.0 there.0) (ap (λ k. k == r) (at_after x.0) ∙ there.1)) x.1.1
 
-  -- and nobody else does, unless it is the new call
+  -- and no others are, unless the new call is a writer
   blocked_before : (r p : ℕ) → is_write w.role ≡ false → is_blocked g r p ≡ true
       → is_blocked h r p ≡ true
   blocked_before r p calm t = go (In-append_cases x.0 (open_calls h) (w ∷ [])
@@ -181,7 +181,7 @@ module _ (h : History) (f : Follows h) (c : ℕ) (call : Asked) (n : forced h �
           ∙ (and_parts (is_write x.0.role) (nat_le p x.0.priority) x.1.1).0))
       go (inr (inr i)) = absurd i
 
-  -- what a barrier lacks it lacks still
+  -- whether an arrival's barrier is full has not changed
   complete_after : (v : WaitingCall) → is_complete g v ≡ is_complete h v
   complete_after v =
       ap (λ (us : List WaitingCall). is_arrival v.role && (length (at_barrier v.object us)
@@ -219,7 +219,7 @@ module _ (h : History) (f : Follows h) (c : ℕ) (call : Asked) (n : forced h �
       ap (λ x. not (is_some x) && (not b || nat_lt 0 (reads g r d))) (writer_after r)
       ∙ ap (λ x. not (is_some (writer h r)) && (not b || nat_lt 0 x)) (reads_after r d)
 
-  -- where readers aren't held back more, they may have what they could have
+  -- a reader that could have its lock still can if it is not held back more than before
   unheld_back : (v : RwlockView) (x y : Bool) → (y ≡ true → x ≡ true) → may_read v x ≡ true
       → may_read v y ≡ true
   unheld_back v x true up t = subst (λ b. may_read v b ≡ true) (up refl) t
@@ -228,7 +228,7 @@ module _ (h : History) (f : Follows h) (c : ℕ) (call : Asked) (n : forced h �
       and_from (not v.is_written) true p.0 refl
   unheld_back v false false up t = t
 
-  -- whoever may go on after the call could before it
+  -- a call that may go on after the new call could go on before it
   may_before : (v : WaitingCall) (role : Role) → may_by g v role ≡ true → may_by h v role ≡ true
   may_before v ForMutex t = sym (lock_after v.object) ∙ t
   may_before v (ForCond m) t =
@@ -241,7 +241,7 @@ module _ (h : History) (f : Follows h) (c : ℕ) (call : Asked) (n : forced h �
       (sym (read_after v.object v.client (is_blocked g v.object v.priority)) ∙ t)
   may_before v ForBarrier t = sym (complete_after v) ∙ t
 
-  -- and the new call may, where it could have before it came
+  -- the new call may go on if it could have gone on before it came
   may_new : (role : Role) → w.role ≡ role → is_for_lock role ≡ true → may_by h w role ≡ true
       → may_by g w role ≡ true
   may_new ForMutex r k t = lock_after w.object ∙ t
@@ -254,7 +254,7 @@ module _ (h : History) (f : Follows h) (c : ℕ) (call : Asked) (n : forced h �
   may_new ForBarrier r k t = absurd (false≢true k)
   may_new (ForCond m) r k t = absurd (false≢true k)
 
-  -- nobody may go on where nothing is forced
+  -- no earlier call may go on, since nothing was forced
   none_may : (v : WaitingCall) → In v (open_calls h) → may h v ≡ true → ⊥
   none_may v i t =
       least-none (is_served_before h) (filter (may h) (open_calls h))
@@ -266,7 +266,7 @@ module _ (h : History) (f : Follows h) (c : ℕ) (call : Asked) (n : forced h �
           (λ u j. let r = In-filter (is_served h) (open_calls h) u j in
           false≢true (sym (none-served h n u r.0) ∙ r.1))
 
-  -- so the new call alone may
+  -- so the new call is the one that is served
   served_new : may h w ≡ true → served g ≡ Some w
   served_new t =
       served-least g (f, s)
@@ -297,7 +297,7 @@ module _ (h : History) (f : Follows h) (c : ℕ) (call : Asked) (n : forced h �
       ∙ ap (λ b. Some (cond b (Trip w.object) (Grant w.place (grant_outcome g w))))
       (lock_role w.role l).0
 
--- a call that is left waiting with a deadline that is no time is granted by the next entry
+-- a call that is left waiting with a deadline that is not a time is granted by the next entry
 pub bad-granted : (h : History) → Follows h → (c : ℕ) (call : Asked) → forced h ≡ None
     → is_alive h c ≡ true → open_place h c ≡ None → has_bad_deadline (asked (operation call)) ≡ true
     → (w : WaitingCall) → In w (left_by (effect h c call (reply (verdict h c call))))

@@ -1,4 +1,4 @@
--- Which calls are left waiting with a deadline that is no time: those for a lock that is free.
+-- Calls that are left waiting with a deadline that is not a time: those for a lock that is free.
 use Rattle.std.proofs.Common.{◌≡◌, ℕ, inl, inr, nat_lt, nat_le, Bool, true, false, cond, not, ◌&&◌}
 use Rattle.std.proofs.Common.{◌||◌, Option, Some, None, is_none, is_some, unwrap_or, refl, sym, ◌∙◌}
 use Rattle.std.proofs.Common.{subst}
@@ -54,7 +54,7 @@ is_for_lock ForRead = true
 is_for_lock ForWrite = true
 is_for_lock _ = false
 
--- no such role gives back a mutex, or is for a barrier
+-- such a role gives back no mutex, and is not for a barrier
 pub lock_role : (role : Role) → is_for_lock role ≡ true → (is_arrival role ≡ false)
     × ((m : ℕ) → awaited role m ≡ false)
 lock_role ForMutex e = (refl, λ m. refl)
@@ -63,7 +63,8 @@ lock_role ForWrite e = (refl, λ m. refl)
 lock_role ForBarrier e = absurd cc
 lock_role (ForCond m) e = absurd cc
 
--- a lock that is left waiting with such a deadline may be had but for the order of calls
+-- if a call for a mutex is left waiting with such a deadline, the mutex may be had, apart from the
+-- order of calls
 lock_bad : (h : History) (c : ℕ) (how : How) (o : Option ℕ)
     → reply (on o (λ m. lock_kind_verdict h c m MutexLock how)) ≡ None
     → has_bad_deadline (deadline_of how) ≡ true
@@ -91,7 +92,7 @@ lock_bad h c how (Some m) e bad =
     go false false false false false false true k e = absurd cc
     go false false false false false false false k e = absurd cc
 
--- whoever has read locks there keeps writers away
+-- no writer holds a lock on which a client has read locks
 unwritten : (h : History) → Follows h → (r c : ℕ) → nat_lt 0 (reads h r c) ≡ true
     → not (is_some (writer h r)) ≡ true
 unwritten h f r c t = go (writer h r) refl
@@ -102,7 +103,7 @@ unwritten h f r c t = go (writer h r) refl
         let own = first_below-passes (place h) (λ k. writes h r k) d e in
         absurd (false≢true (sym (alone h f r d c own).1 ∙ t))
 
--- the same of a read lock
+-- the same for a read lock
 read_bad : (h : History) → Follows h → (c : ℕ) (how : How) (o : Option ℕ)
     → reply (on o (λ r. lock_kind_verdict h c r ReadLock how)) ≡ None
     → has_bad_deadline (deadline_of how) ≡ true
@@ -132,7 +133,7 @@ read_bad h f c how (Some r) e bad =
     go x false false false false false b true k free e = absurd cc
     go x false false false false false b false k free e = absurd cc
 
--- and of the write lock
+-- the same for a write lock
 write_bad : (h : History) (c : ℕ) (how : How) (o : Option ℕ)
     → reply (on o (λ r. lock_kind_verdict h c r WriteLock how)) ≡ None
     → has_bad_deadline (deadline_of how) ≡ true
@@ -168,11 +169,11 @@ wait_bad h c d (Some q) (Some m) e bad =
     go true b x k e = cc
     go false b x k e = absurd cc
 
--- what may be had at once but for the order of calls
+-- a call for a lock that may be had at once, apart from the order of calls
 abbrev pub Ready : History → WaitingCall → Type 0
 Ready h w = (is_for_lock w.role ≡ true) × (may h w ≡ true)
 
--- the call that an operation with such a deadline leaves waiting is one for such a lock
+-- an operation with such a deadline leaves only such a call waiting
 operation_bad : (h : History) → Follows h → (c : ℕ) (z : Clock) (d : Operation)
     → reply (operation_verdict h c d) ≡ None → has_bad_deadline (asked d) ≡ true → (w : WaitingCall)
     → In w (stood_by_operation h c z d) → Ready h w
@@ -196,7 +197,7 @@ operation_bad h f c z (Rwunlocks n) e bad w i = absurd i
 operation_bad h f c z (Signals n) e bad w i = absurd i
 operation_bad h f c z (Broadcasts n) e bad w i = absurd i
 
--- and so is the call that a call does
+-- and so does a call
 pub call_bad : (h : History) → Follows h → (c : ℕ) (call : Asked) (x : Option Outcome)
     → reply (verdict h c call) ≡ x → has_bad_deadline (asked (operation call)) ≡ true
     → (w : WaitingCall)

@@ -43,7 +43,7 @@ service-trip h o arrival =
     ap (λ b. cond b (Trip o.call.object)
     (Grant o.call.place (grant_outcome h (called o)))) arrival
 
--- an arrival as it waits, which isn't moved
+-- an arrival as it waits, which was not moved
 module _ (h : History) (f : Follows h) (w : WaitingCall) (i : In w (open_calls h))
     (arrival : is_arrival w.role ≡ true) where
   no_wait : (r : Role) → is_arrival r ≡ true → is_wait r ≡ false
@@ -85,14 +85,14 @@ rises v w c j d k e i late =
 module _ (h : History) (u : WaitingCall) (queue : ℕ → List Waiter) (admitted made : ℕ → Bool)
     (f : Follows h) (i : In u (open_calls h)) (arrival : is_arrival u.role ≡ true)
     (k : IsQueued h (queues_of queue admitted made)) where
-  -- who stands at the barrier has arrived at it
+  -- a call waits at the barrier exactly if it is an arrival there
   stands : (w : WaitingCall) → In w (open_calls h)
       → (at_object h w == u.object) ≡ (is_arrival w.role && (w.object == u.object))
   stands w j =
       arrived h w.role (moved h w.place) w.object u.object (housed h f w j)
       (barrier-of h f u i arrival)
 
-  -- the call of one that stands there
+  -- the open arrival to which a waiter belongs
   abbrev Standing : Waiter → Type 0
   Standing v =
       (w : WaitingCall) × In w (open_calls h) × (is_arrival w.role ≡ true) × (v ≡ waiter h w)
@@ -152,7 +152,7 @@ module _ (h : History) (u : WaitingCall) (queue : ℕ → List Waiter) (admitted
         in_order = rising (queue u.object) (k.members.in_order u.object) called-by;
       }
 
--- the queue of the barrier at which a call waits
+-- the queue of a barrier at which a call waits has the barrier's arrivals
 pub are-arrivals : {A : Type 0} (s : State A) (o : Open) (queue : ℕ → List Waiter)
     (admitted made : ℕ → Bool) → AreTables s → In o (opens_of s.clients)
     → is_arrival (called o).role ≡ true → IsQueued (past s) (queues_of queue admitted made)

@@ -19,14 +19,14 @@ use Rattle.pt_touched.proofs.BoundMutex.{at_cond, bound-any, bound-none}
 use Rattle.pt_machine.proofs.QueueClasses.{at-cond}
 
 module _ (h : History) (f : Follows h) (q : ℕ) (cond : kind_of h q ≡ Some kind.Cond) where
-  -- the waits that stand there
+  -- the waits at the condition
   abbrev pub waits : List WaitingCall
   waits = filter (waits_in h q) (open_calls h)
 
   cond_here : exists_as h CondClass q ≡ true
   cond_here = rw cond refl
 
-  -- the mutex of the first wait is that of all
+  -- the mutex of the first wait is the one that is bound to the condition
   pub bound-first : (w : WaitingCall) → Some w ≡ least (precedes h) waits → (m : Option ℕ)
       → m ≡ mutex_awaited w.role → m ≡ bound_by (waiting_at h q)
   bound-first w e m t =
@@ -39,7 +39,7 @@ module _ (h : History) (f : Follows h) (q : ℕ) (cond : kind_of h q ≡ Some ki
       t ∙ ap mutex_awaited known.1.1.0
       ∙ sym (bound-any h f q w known.1.0 known.0 known.1.1.1.1 known.1.1.0 known.1.1.1.0)
 
-  -- where no wait stands there, there is none
+  -- if no call waits at the condition, no mutex is bound to it
   pub bound-nothing : None ≡ least (precedes h) waits → None ≡ bound_by (waiting_at h q)
   bound-nothing e =
       sym (bound-none h f q cond (λ w i. false_by (waits_in h q w) (λ t.

@@ -1,4 +1,4 @@
--- What a broadcast makes of the history: the waits at its condition are moved, and nothing else.
+-- A broadcast moves the waits at its condition, and changes nothing else.
 use Rattle.std.proofs.Common.{◌≡◌, ℕ, Bool, true, false, cond, ◌&&◌, ◌==◌, List, ◌++◌, Option, Some}
 use Rattle.std.proofs.Common.{None, is_none, refl, sym, ap, ◌∙◌, subst, arith, append-nil, eq-eqb}
 use Rattle.std.proofs.Common.{unwrap_or}
@@ -47,15 +47,15 @@ use Rattle.pt_state.proofs.StepLemmas.{called}
 use Rattle.pt_history.proofs.Places.{past-pushed}
 use Rattle.pt_history.specs.Stored.{past_of}
 
--- whether a call is a wait that stands at the condition q still
+-- whether a call is a wait that is still at the condition q
 abbrev pub still_waits : Role → Option Move → ℕ → ℕ → Bool
 still_waits role move o q = is_wait role && (is_none move && (q == o))
 
--- the move by an entry at this place that is a broadcast
+-- the move by a broadcast at this place
 abbrev pub roused : ℕ → Option Move
 roused at = Some (record { at = at; cause = Broadcasted })
 
--- a broadcast at the condition q makes g of h
+-- g is the history h after a broadcast at the condition q
 pub record Broadcast (h g : History) (q : ℕ) : Type 0 where
   pub before : Follows h
   pub after : Follows g
@@ -67,7 +67,7 @@ pub record Broadcast (h g : History) (q : ℕ) : Type 0 where
   pub kinds : (o : ℕ) → kind_of g o ≡ kind_of h o
   pub alive : (c : ℕ) → is_alive g c ≡ is_alive h c
 
--- a call that is answered that it woke all waits at the condition
+-- a call of broadcast that is answered 0 is such a broadcast
 pub broadcast-call : (h : History) (c : ℕ) (call : Asked) → Follows h
     → Step h (Call c call (Some Done)) → (n : List ℕ) → operation call ≡ Broadcasts n → (q : ℕ)
     → find h n CondClass ≡ Some q → Broadcast h (h ▷ Call c call (Some Done)) q
@@ -98,7 +98,7 @@ broadcast-call h c call f s n d q e =
         open-call h c call (Some Done) (Fresh-follows h f) (called h c call (Some Done) s).alive may
         ∙ (ap (λ E. open_calls h ++ left_by E) wakes ∙ append-nil (open_calls h))
 
-    -- whether the call at a place is woken
+    -- the open calls that are woken are the waits at the condition
     waiting : (w : WaitingCall) → In w (open_calls h)
         → woken (cond_waits h (moved h) n) Broadcasted w.place
         ≡ cond (still_waits w.role (moved h w.place) w.object q) (Some Broadcasted) None
@@ -118,7 +118,7 @@ broadcast-call h c call f s n d q e =
         go true = refl
         go false = refl
 
--- the tables with that call
+-- the same for the history of tables to which the call was added
 pub broadcasting : {A : Type 0} (s new : State A) (c : ℕ) (call : Asked) (n : List ℕ)
     (found : Option ℕ) (q : ℕ) → IsReadyFor s (Call c call (Some Done))
     → operation call ≡ Broadcasts n → found ≡ find (past s) n CondClass → found ≡ Some q
@@ -129,7 +129,7 @@ broadcasting s new c call n found q r d e k a =
     ∙ past-pushed s.stored (Call c call (Some Done))))
     (broadcast-call (past s) c call r.read.follows r.step n d q (sym e ∙ k))
 
--- a call that stands at a condition is a wait that stands there still
+-- a call at a condition is a wait that is still there
 waits-by : (h : History) (q : ℕ) → exists_as h CondClass q ≡ true → (role : Role)
     (move : Option Move) (o : ℕ) → HousedBy h role move o → object_by role move o ≡ q
     → still_waits role move o q ≡ true
@@ -156,7 +156,7 @@ waits-by h q c ForBarrier move o s e =
     (ap (exists_as h BarrierClass) (sym e) ∙ s.0) in
     absurd cc
 
--- and such a wait stands there
+-- and a wait that is still there is at the condition
 stands-by : (role : Role) (move : Option Move) (o q : ℕ) → still_waits role move o q ≡ true
     → object_by role move o ≡ q
 stands-by (ForCond m) None o q t = grind (arith, nat_tests)
@@ -166,7 +166,7 @@ stands-by ForRead move o q t = absurd cc
 stands-by ForWrite move o q t = absurd cc
 stands-by ForBarrier move o q t = absurd cc
 
--- one that is moved does not
+-- a wait that was moved is not
 left-by : (h : History) (q : ℕ) → exists_as h CondClass q ≡ true → (role : Role)
     (v : Move) (o : ℕ) → is_wait role ≡ true → HousedBy h role (Some v) o
     → (object_by role (Some v) o == q) ≡ false
@@ -182,7 +182,7 @@ left-by h q c ForWrite v o t s = absurd cc
 left-by h q c ForBarrier v o t s = absurd cc
 
 module _ {h g : History} {q : ℕ} (b : Broadcast h g q) where
-  -- the calls that are open were so before
+  -- the calls that are open were open before
   pub was : (w : WaitingCall) → In w (open_calls g) → In w (open_calls h)
   was w i = subst (λ (ws : List WaitingCall). In w ws) b.calls i
 
@@ -191,7 +191,7 @@ module _ {h g : History} {q : ℕ} (b : Broadcast h g q) where
   waits w i e =
       waits-by h q b.is_cond w.role (moved h w.place) w.object (housed h b.before w (was w i)) e
 
-  -- who stood at the condition had not been moved
+  -- a call that was at the condition had not been moved
   pub came : (w : WaitingCall) → In w (open_calls g) → at_object h w ≡ q
       → (arrival_by (moved h w.place) w.place).0 ≡ w.place
   came w i e = go (moved h w.place) (waits w i e)
@@ -201,13 +201,13 @@ module _ {h g : History} {q : ℕ} (b : Broadcast h g q) where
       go None t = refl
       go (Some v) t = absurd (let no = (and_parts (is_wait w.role) false t).1 in cc)
 
-  -- now it is moved
+  -- the broadcast moves it
   pub rouses : (w : WaitingCall) → In w (open_calls g) → at_object h w ≡ q
       → moved g w.place ≡ roused (place h)
   rouses w i e =
       b.moves w i ∙ ap (λ t. cond t (roused (place h)) (moved h w.place)) (waits w i e)
 
-  -- and stands there no more
+  -- and it is no longer at the condition
   pub away : (w : WaitingCall) → In w (open_calls g) → at_object h w ≡ q
       → (at_object g w == q) ≡ false
   away w i e =
@@ -220,7 +220,7 @@ module _ {h g : History} {q : ℕ} (b : Broadcast h g q) where
       ap (λ x. object_by w.role x w.object == q) (rouses w i e)
       ∙ left-by g q there w.role (record { at = place h; cause = Broadcasted }) w.object role sits
 
-  -- every other call is as it was
+  -- no other call is moved
   pub spares : (w : WaitingCall) → In w (open_calls g) → (at_object h w == q) ≡ false
       → moved g w.place ≡ moved h w.place
   spares w i n =
@@ -229,7 +229,7 @@ module _ {h g : History} {q : ℕ} (b : Broadcast h g q) where
       let at : at_object h w ≡ q = stands-by w.role (moved h w.place) w.object q t in
       absurd (let here = eq-eqb (at_object h w) q at in let no = n in cc)))
 
-  -- it stands at the mutex that was bound to the condition
+  -- a call that was at the condition now waits at the mutex that was bound to it
   pub goes : (w : WaitingCall) → In w (open_calls g) → at_object h w ≡ q
       → at_object g w ≡ unwrap_or (bound_by (waiting_at h q)) 0
   goes w i e =

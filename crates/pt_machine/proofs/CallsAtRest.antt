@@ -79,7 +79,7 @@ module _ (h : History) (f : Follows h) (c : ℕ) (call : Asked)
 
   module _ (n : List ℕ) (k : LockKind) (asks : operation call ≡ Acquires n k Plain)
       (left : reply (verdict h c call) ≡ None) where
-    -- the call, as it waits
+    -- the lock, and the call as it waits for it
     abbrev o : ℕ
     o = meant h n (class_needed k)
 
@@ -111,7 +111,7 @@ module _ (h : History) (f : Follows h) (c : ℕ) (call : Asked)
         go ReadLock = refl
         go WriteLock = refl
 
-    -- the locks are as they were
+    -- the locks have not changed
     quiet : (m d : ℕ) → Quiet h g m d
     quiet m d =
         record {
@@ -142,7 +142,7 @@ module _ (h : History) (f : Follows h) (c : ℕ) (call : Asked)
         read : (e : ℕ) → reads g m e ≡ reads h m e
         read e = reads-call h c call (reply (verdict h c call)) m e (reads h m e) ∙ rw back refl
 
-    -- and so are the calls that wait for them
+    -- nor have the calls that wait for them
     beside : (m : ℕ) → Stays h g m
     beside m =
         record {
@@ -159,7 +159,7 @@ module _ (h : History) (f : Follows h) (c : ℕ) (call : Asked)
               no_arrival ∙ append-nil (at_barrier m (open_calls h))));
         }
 
-    -- the call is not granted where its lock is held
+    -- the call is not granted if its lock is held
     kept : Held h k (meant h n (class_needed k)) → is_served g u ≡ false
     kept held =
         ap (λ b. b || is_complete g u) (go k held (quiet o c))
@@ -220,7 +220,7 @@ module _ (h : History) (f : Follows h) (c : ℕ) (call : Asked)
         go None e t = absurd cc
         go (Some m) e t = e ∙ ap (λ x. Some (unwrap_or x 0)) (sym e)
 
-    -- if the lock is free, none waits for it
+    -- no call is served at the lock before, so if it is free, none waits for it
     unserved : candidate h (meant h n (class_needed k)) ≡ None
     unserved =
         sym (candidates h f (meant h n (class_needed k)))
@@ -309,7 +309,7 @@ module _ (h : History) (f : Follows h) (c : ℕ) (call : Asked)
         go ReadLock e free = absurd cc
         go WriteLock e free = lock (writer h o) (is_some (reader h o)) refl refl e free
 
-  -- nothing must follow a call of which this is known
+  -- nothing must follow a call of which this is known from its operation
   pub at-rest : (b : Bool) → rests_by (operation call) b ≡ true
       → (IsUnopposed h c call → b ≡ true) → forced g ≡ None
   at-rest b e said = go (operation call) refl (reply (verdict h c call)) refl e
@@ -346,7 +346,7 @@ module _ (h : History) (f : Follows h) (c : ℕ) (call : Asked)
       go (Broadcasts n) asks None told e = absurd cc
       go (Arrives n) asks None told e = absurd cc
 
--- a call that is unopposed finds its lock free
+-- the lock of an unopposed call is free
 pub unopposed-free : (h : History) (c : ℕ) (call : Asked) (n : List ℕ) (k : LockKind) (how : How)
     (o : ℕ) → Follows h → operation call ≡ Acquires n k how
     → object_meant h (operation call) ≡ Some o → IsUnopposed h c call
@@ -365,7 +365,7 @@ unopposed-free h c call n k how o f asks found known =
       subst (IsFree h k) at (subst (λ (x : LockKind). IsFree h x known.object) kind known.free),
     )
 
--- so nothing must follow an event of which its plan says so
+-- so nothing must follow an event if its plan says so
 pub rests-planned : (h : History) (v : Event) (p : Plan) → Follows h → Step h (entry_for h v)
     → IsPlanned h v p → rests_after v p.at_once ≡ true → forced (h ▷ entry_for h v) ≡ None
 rests-planned h (event.Call c call) p f s planned e =

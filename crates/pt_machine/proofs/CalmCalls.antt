@@ -1,4 +1,4 @@
--- CalmCalls: nothing must follow a call that gives nothing back and leaves none waiting.
+-- CalmCalls: nothing must follow a call that gives nothing back and leaves no call waiting.
 use Rattle.std.proofs.Common.{◌≡◌, ℕ, ◌≤◌, Bool, true, false, cond, not, ◌&&◌, ◌==◌, List, []}
 use Rattle.std.proofs.Common.{◌++◌, Option, Some, None, is_some, filter, refl, sym, ap}
 use Rattle.std.proofs.Common.{◌∙◌, subst, arith, inl, inr, ◌⊎◌}
@@ -57,7 +57,7 @@ and_false : (a : Bool) → (a && false) ≡ false
 and_false true = refl
 and_false false = refl
 
--- where no call is served or overdue and no mutex is an orphan, nothing must follow
+-- nothing must follow if no call is served or overdue and no mutex is an orphan
 pub none-forced : (g : History) → ((w : WaitingCall) → In w (open_calls g) → is_served g w ≡ false)
     → ((m : ℕ) → is_orphan g m ≡ false)
     → ((w : WaitingCall) → In w (open_calls g) → is_overdue g w ≡ false) → forced g ≡ None
@@ -100,7 +100,7 @@ upon_calm h (Some x) k e = e x
 pub idle : (h : History) → Calm h Idle
 idle h = (refl, ((λ j. refl), refl))
 
--- calls that give nothing back are, once they are answered
+-- the effect of a call that gives nothing back is calm, if the call is answered 0
 succeeded : (h : History) (d : Operation) (b : Bool) → rests_by d b ≡ true → Calm h (succeeds h d)
 succeeded h (Makes n kind) b e = (refl, ((λ j. refl), refl))
 succeeded h (Ends n class) b e =
@@ -205,7 +205,7 @@ module _ (h : History) (f : Follows h) (c : ℕ) (call : Asked)
         moved-call h c call (reply (verdict h c call)) j
         ∙ ap (λ x. move_or (place h) x (moved h j)) (none j)
 
-    -- no call is overdue if that which is left waiting has no deadline
+    -- no call is overdue if the one that is left waiting has no deadline
     pub due : ((w : WaitingCall) → In w (left_by E) → w.deadline ≡ None) → (w : WaitingCall)
         → In w (open_calls g) → is_overdue g w ≡ false
     due untimed w i =
@@ -224,7 +224,7 @@ module _ (h : History) (f : Follows h) (c : ℕ) (call : Asked)
             ap (λ d. not (is_moved g w) && is_due (clock g w.clock) d) (untimed w j)
             ∙ never (clock g w.clock)
 
-  -- nothing must follow a call of a calm effect
+  -- nothing must follow a call whose effect is calm
   pub calm-rests : Calm h (effect h c call (reply (verdict h c call))) → forced g ≡ None
   calm-rests calm = none-forced g served orphan (due calm.1.0 (λ w i. absurd (nobody w i)))
     where

@@ -1,4 +1,4 @@
--- CandidateRows: the candidate of an object, by the rows of objects and of clients.
+-- CandidateRows: the candidate of an object, as the rows of objects and of clients give it.
 use Rattle.std.proofs.Common.{◌≡◌, ℕ, Bool, true, false, cond, not, ◌&&◌, ◌||◌, ◌==◌, nat_lt, List}
 use Rattle.std.proofs.Common.{nat_le, subst}
 use Rattle.std.proofs.Common.{Option, Some, None, is_some, is_none, refl, sym, ap, ◌∙◌, arith}
@@ -62,12 +62,12 @@ pub if_left : (b : Bool) (w : WaitingCall) (x : Option WaitingCall) → b ≡ fa
     → cond b (Some w) None ≡ x → None ≡ x
 if_left b w x e t = ap (λ (y : Bool). cond y (Some w) None) (sym e) ∙ t
 
--- a writer may go on where nobody holds a lock
+-- a writer may go on if nobody holds the lock
 pub may-go : (writes free : Bool) → free ≡ true → (writes && not free) ≡ false
 may-go true free e = ap not e
 may-go false free e = refl
 
--- a call to read that waits as long as it must stands, whoever waits before it
+-- the verdict on a plain call for a read lock is the same, whoever waits before it
 pub plain-stands : (v : RwlockView) (how : How) (blocked : Bool) → how ≡ Plain
     → read_verdict v false how ≡ read_verdict v blocked how
 plain-stands v how blocked is =
@@ -88,7 +88,7 @@ plain-stands v how blocked is =
     either false false false false true = refl
     either false false false false false = refl
 
--- what is not there
+-- an option that is not some is none
 pub empty : (x : Option ℕ) → is_some x ≡ false → x ≡ None
 empty None e = refl
 empty (Some c) e = absurd cc
@@ -100,13 +100,13 @@ module _ {A : Type 0} (h : History) (clients : List (ClientRow Caller))
     seen : x.seen ≡ mutex_view h m
     seen = (t.mutexes m x stored).0
 
-    -- whether it is free or lost, by its row
+    -- whether the mutex is free or not recoverable, by its row
     free : may_lock x.seen true ≡ (is_lost (consistency h m) || is_none (owner h m))
     free =
         ap (λ b. is_lost x.seen.consistency || b) (and_true (is_none x.seen.owner))
         ∙ ap (λ (v : MutexView). is_lost v.consistency || is_none v.owner) seen
 
-    -- a mutex that is owned serves a call of its owner
+    -- a mutex that has an owner serves the owner's call if that has come back to it
     owned : (c : ℕ) → may_lock x.seen true ≡ false → x.seen.owner ≡ Some c
         → if_passes (comes_back h m) (open_call_of h c) ≡ mutex_candidate h m
     owned c n e =
@@ -130,13 +130,13 @@ module _ {A : Type 0} (h : History) (clients : List (ClientRow Caller))
         && (is_recursive (mutex_kind (kind_of h m)) && (is_wait (called o).role && is_some v)))
         ((are-open h clients f a).known o i).1)
 
-    -- the first is served, if it may lock
+    -- the first call is served if the mutex may be locked
     pub mutex-free : may_lock x.seen true ≡ true → first_at h m ≡ mutex_candidate h m
     mutex-free may =
         ap (λ b. cond b (first_at h m) (if_passes (comes_back h m) (open_call_if h (owner h m))))
         (sym may ∙ free)
 
-    -- if a relock does not count there, none is served
+    -- no call is served if the mutex may not be locked and is not RECURSIVE
     pub mutex-plain : may_lock x.seen true ≡ false → is_recursive x.seen.kind ≡ false
         → None ≡ mutex_candidate h m
     mutex-plain n plain =
@@ -156,7 +156,7 @@ module _ {A : Type 0} (h : History) (clients : List (ClientRow Caller))
             no (at_object h w == m) (is_recursive (mutex_kind (kind_of h m))) w
             (sym (ap (λ (v : MutexView). is_recursive v.kind) seen) ∙ plain)
 
-    -- what is served where its owner has an open call
+    -- the call that is served if the owner has an open call
     pub mutex-served : (c : ℕ) → may_lock x.seen true ≡ false → is_recursive x.seen.kind ≡ true
         → x.seen.owner ≡ Some c → (o : Open) → Some o ≡ open_in (client_value clients c)
         → (b : Bool)
@@ -170,7 +170,7 @@ module _ {A : Type 0} (h : History) (clients : List (ClientRow Caller))
         ∙ back o (found-known clients c (Some o) e)))
         ∙ (ap (if_passes (comes_back h m)) (row-call h clients f a c (Some o) e) ∙ owned c n own)
 
-    -- and if it has none
+    -- no call is served if the owner has none
     pub mutex-idle : (c : ℕ) → may_lock x.seen true ≡ false → x.seen.owner ≡ Some c
         → None ≡ open_in (client_value clients c) → None ≡ mutex_candidate h m
     mutex-idle c n own e =
@@ -214,7 +214,7 @@ module _ {A : Type 0} (h : History) (clients : List (ClientRow Caller))
         by_role ForBarrier n e = refl
         by_role (ForCond k) n e = refl
 
-    -- what is served of the client whose call came last
+    -- the call that is served for the client whose call came last
     pub again-served : (c : ℕ) → Some c ≡ entering h → (o : Open)
         → Some o ≡ open_in (client_value clients c)
         → (b : Bool) → b ≡ ((object_of o == r)
@@ -227,7 +227,7 @@ module _ {A : Type 0} (h : History) (clients : List (ClientRow Caller))
         ∙ (ap (if_passes (reads_again_at h r)) (row-call h clients f a c (Some o) e)
         ∙ ap (λ y. if_passes (reads_again_at h r) (open_call_if h y)) come)
 
-    -- where that client has no open call
+    -- no call is, if that client has no open call
     pub again-idle : (c : ℕ) → Some c ≡ entering h → None ≡ open_in (client_value clients c)
         → None ≡ if_passes (reads_again_at h r) (open_call_if h (entering h))
     again-idle c come e =
@@ -237,7 +237,7 @@ module _ {A : Type 0} (h : History) (clients : List (ClientRow Caller))
     nobody_writes : is_some (writer h r) ≡ false
     nobody_writes = ap is_some (sym kept.writer ∙ unwritten)
 
-    -- whether somebody reads, by its row
+    -- whether any client reads, by the row of the lock
     read : (b : Bool) → nobody_holds x ≡ b → is_some (reader h r) ≡ not b
     read b e =
         sym (read-same h r x f kept)
@@ -288,7 +288,7 @@ module _ {A : Type 0} (h : History) (clients : List (ClientRow Caller))
         turned_round false true e = refl
         turned_round false false e = refl
 
-    -- and none, if none waits
+    -- and no call is, if none waits
     pub lock-unasked : None ≡ first_at h r → None ≡ rwlock_candidate h r
     lock-unasked e =
         sym

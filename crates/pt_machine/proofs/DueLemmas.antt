@@ -1,4 +1,4 @@
--- The deadlines that are set, and which open call is overdue first.
+-- The deadlines that are set, and the open call that is overdue first.
 use Rattle.std.proofs.Common.{◌≡◌, ℕ, ◌≤◌, Bool, true, false, not, List, Option, Some, None}
 use Rattle.std.proofs.Common.{is_some, unwrap_or, refl, sym, ap, ◌∙◌, arith, filter}
 use Rattle.std.proofs.lemmas.Bool.Decides.{nat_tests}
@@ -35,30 +35,30 @@ use Rattle.pt_machine.specs.Timed.{timed, is_set, setting, setting_if, AreTimed,
 use Rattle.pt_machine.proofs.NoBadDeadlines.{grants-bad}
 use Rattle.pt_machine.proofs.OpenPlaces.{place-in, place-one}
 
--- a Yield or an Expire is no Grant
+-- a Yield or an Expire is not a Grant
 not_granted : (m : Option ℕ) (late : Option WaitingCall) (k : ℕ) (x : Outcome)
     → option_or (yield_if m) (expire_if late) ≡ Some (Grant k x) → ⊥
 not_granted (Some m) late k x e = cc
 not_granted None (Some w) k x e = cc
 not_granted None None k x e = cc
 
--- a clock has reached a deadline where that is due
+-- a clock has reached a deadline exactly if the deadline is due
 reached_due : (t : Option ℕ) (m : ℕ) → is_reached t m ≡ is_due t (Some m)
 reached_due None m = refl
 reached_due (Some now) m = refl
 
--- what is due is a deadline
+-- if an optional deadline is due, there is one
 due_some : (t d : Option ℕ) → is_due t d ≡ true → (m : ℕ) × (d ≡ Some m)
 due_some None d e = absurd cc
 due_some (Some now) None e = absurd cc
 due_some (Some now) (Some m) e = (m, refl)
 
--- what is there is something
+-- an option that is some has a value
 some_of : (d : Option ℕ) → is_some d ≡ true → (m : ℕ) × (d ≡ Some m)
 some_of None e = absurd cc
 some_of (Some m) e = (m, refl)
 
--- a deadline of a clock
+-- the clock and the nanoseconds of a deadline that is set
 clocked : (c : Clock) (d : Option ℕ) (k : Clock) (m : ℕ)
     → option_map {U = Clock × ℕ} (λ n. (c, n)) d ≡ Some (k, m) → (c ≡ k) × (d ≡ Some m)
 clocked c None k m e = absurd cc
@@ -67,13 +67,13 @@ clocked c (Some n) k m e = (
   ap (λ (o : Option (Clock × ℕ)). Some (unwrap_or o (k, m)).1) e,
 )
 
--- the clocks that are stored are those of the history
+-- the stored clocks are those of the history
 pub as-read : {A : Type 0} (h : History) (inside s : State A) → inside ≡ s → AreClocks h s.clocks
     → (k : Clock) → moments inside.clocks.real inside.clocks.mono k ≡ clock h k
 as-read h inside s is all Real = ap (λ (t : State _). t.clocks.real) is ∙ all Real
 as-read h inside s is all Mono = ap (λ (t : State _). t.clocks.mono) is ∙ all Mono
 
--- one clock
+-- two clocks that compare as the same are equal
 one_clock : (c k : Clock) → same_clock c k ≡ true → c ≡ k
 one_clock Real Real e = refl
 one_clock Mono Mono e = refl
@@ -84,7 +84,7 @@ own_clock : (k : Clock) → same_clock k k ≡ true
 own_clock Real = refl
 own_clock Mono = refl
 
--- the least of some elements, where none is before it and ties are equal
+-- an element is the least if none goes before it and each that ties with it is equal to it
 least_at : {X : Type 0} (lt : X → X → Bool) → IsOrder lt → (ws : List X) (w : X) → In w ws
     → ((v : X) → In v ws → lt v w ≡ false)
     → ((v : X) → In v ws → lt v w ≡ false → lt w v ≡ false → v ≡ w) → least lt ws ≡ Some w
@@ -97,7 +97,7 @@ least_at lt o ws w i first one = go (least lt ws) refl
         ap Some (one u j (first u j) (least-first lt o ws u e w i))
 
 module _ (h : History) (f : Follows h) where
-  -- where none is to be served, each open call has a deadline that is a time, or none
+  -- if no call is to be served, the deadline of each open call that has one is a time
   pub unserved-good : forced_service h ≡ None → (w : WaitingCall) → In w (open_calls h)
       → has_bad_deadline (timed h w.place) ≡ false
   unserved-good n w i =
@@ -110,7 +110,7 @@ module _ (h : History) (f : Follows h) where
   module _ (ts : List (ℕ × (Clock × ℕ))) (kept : AreTimed h ts)
       (good : (w : WaitingCall) → In w (open_calls h) → has_bad_deadline (timed h w.place) ≡ false)
     where
-      -- the deadline of an open call that isn't moved is set
+      -- the deadline of an open call that was not moved is set
       set_for : (w : WaitingCall) → In w (open_calls h) → not (is_moved h w) ≡ true
           → deadline_at ts w.place ≡ setting w
       set_for w i still =
@@ -120,7 +120,7 @@ module _ (h : History) (f : Follows h) where
           (filter-in (is_set h) (open_calls h) w i t) refl
           (λ v j at. one_open h f v w (In-filter (is_set h) (open_calls h) v j).0 i at))
 
-      -- what is set is the deadline of such a call
+      -- a deadline that is set is that of such a call
       abbrev SetBy : ℕ → Clock → ℕ → Type 0
       SetBy p k m =
           (w : WaitingCall) × In w (open_calls h) × (w.place ≡ p) × (not (is_moved h w) ≡ true)
@@ -140,7 +140,7 @@ module _ (h : History) (f : Follows h) where
               (w, i.0, r.1, (and_parts (not (is_moved h w)) _ i.1).0, own.0, own.1)
 
       module _ (now : Clock → Option ℕ) (same : (k : Clock) → now k ≡ clock h k) where
-        -- a deadline that is due is set, and its clock has reached it
+        -- the deadline of an overdue call is set, and its clock has reached it
         due_set : (w : WaitingCall) → In w (filter (is_overdue h) (open_calls h))
             → (m : ℕ) × (w.deadline ≡ Some m) × (is_reached (now w.clock) m ≡ true)
             × (deadline_at ts w.place ≡ Some (w.clock, m))
@@ -156,7 +156,7 @@ module _ (h : History) (f : Follows h) where
               set_for w r.0 parts.0 ∙ ap (option_map (λ n. (w.clock, n))) d.1,
             )
 
-        -- where nothing that is set is due, no call is overdue
+        -- if no deadline that is set is due, no call is overdue
         none-overdue : IsLeastDue ts now None
             → least expires_before (filter (is_overdue h) (open_calls h)) ≡ None
         none-overdue due =
@@ -164,7 +164,7 @@ module _ (h : History) (f : Follows h) where
             (λ w i. let d = due_set w i in
             false≢true (sym (due w.place w.clock d.0 d.3) ∙ d.2))
 
-        -- else the first to be due is the first that is overdue
+        -- otherwise the call whose deadline is due first is the one that is overdue first
         first-overdue : (p : ℕ) → IsLeastDue ts now (Some p)
             → IsFirstLate h (Some p)
         first-overdue p due =
@@ -187,12 +187,13 @@ module _ (h : History) (f : Follows h) where
                   (λ v j at. one_open h f v w j r.1 (at ∙ sym r.2)),
             )
 
-        -- what is due first is the first that is overdue, or none is
+        -- the call whose deadline is due first is overdue first, and if none is due, none is
+        -- overdue
         pub first-late : (found : Option ℕ) → IsLeastDue ts now found → IsFirstLate h found
         first-late None due = none-overdue due
         first-late (Some p) due = first-overdue p due
 
-      -- a deadline by this clock is set
+      -- the deadline of a call by this clock is set
       on_clock : (k : Clock) (w : WaitingCall) → In w (filter (has_deadline h k) (open_calls h))
           → (m : ℕ) × (w.deadline ≡ Some m) × (deadline_at ts w.place ≡ Some (k, m))
       on_clock k w i =
@@ -207,7 +208,8 @@ module _ (h : History) (f : Follows h) where
                 ∙ ap (λ c. Some (c, d.0)) (one_clock w.clock k its.1)),
           )
 
-      -- the least that is set by a clock is the least of the open calls that aren't moved
+      -- the least deadline that is set for a clock is the least of the open calls that were not
+      -- moved
       pub least-kept : (k : Clock) (found : Option Timespec) → IsLeast ts k found
           → option_map deadline_nanos found ≡ least_deadline h k
       least-kept k None all =

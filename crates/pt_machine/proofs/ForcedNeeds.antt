@@ -1,4 +1,4 @@
--- ForcedNeeds: what must still be written after an entry that must follow: exactly.
+-- ForcedNeeds: the exact need after a forced entry.
 use Rattle.std.proofs.Common.{◌≡◌, ℕ, zero, suc, ◌+◌, ◌*◌, ◌<◌, ◌==◌, Bool, true, false, cond, not}
 use Rattle.std.proofs.Common.{◌&&◌, ◌||◌, inl, inr, List, [], ◌∷◌, length, Option, Some, None}
 use Rattle.std.proofs.Common.{is_some, is_none, filter, refl, ap, ◌∙◌, arith}
@@ -33,7 +33,7 @@ use Rattle.pt_model.proofs.ReservedCalls.{totals}
 use Rattle.pt_model.proofs.Room.{reserved_in, reserved_yields, need-reserved}
 use Rattle.pt_model.proofs.Sound.{Fresh-follows, kind_below}
 
--- where one number alone may pass otherwise, the count changes by that number
+-- if two tests differ at one number at most, their counts differ by that number alone
 count_below-turned : (n : ℕ) (s t : ℕ → Bool) (k : ℕ)
     → ((m : ℕ) → (k == m) ≡ false → s m ≡ t m) → k < n
     → count_below n s + cond (t k) 1 0 ≡ count_below n t + cond (s k) 1 0
@@ -61,7 +61,7 @@ count_below-turned (suc n) s t k f lt =
         ap (λ b. cond {A = ℕ} b 1 0) (f n e) in
         omega (arith, here, ih below)
 
--- what is taken out by its place is that much less
+-- without the call at a place, the total is less by what that call adds
 total-gone : (f : WaitingCall → ℕ) (ws : List WaitingCall) (w : WaitingCall) → In w ws → Apart ws
     → total f (filter (λ v. not (v.place == w.place)) ws) + f w ≡ total f ws
 total-gone f [] w i a = absurd i
@@ -80,7 +80,7 @@ total-gone f (x ∷ xs) w (inr i) a =
     let ne : (x.place == w.place) ≡ false = grind (arith, nat_tests) in
     rw ne (omega (arith, total-gone f xs w i a.1))
 
--- what is taken out by a test, where each that passes counts for three
+-- without the calls that pass a test, the total is less by three for each, if each adds three
 total-thrice : (f : WaitingCall → ℕ) (p : WaitingCall → Bool) (ws : List WaitingCall)
     → ((w : WaitingCall) → In w ws → p w ≡ true → f w ≡ 3)
     → total f (filter (λ w. not (p w)) ws) + 3 * length (filter p ws) ≡ total f ws
@@ -94,7 +94,7 @@ total-thrice f p (x ∷ xs) e = go (p x) refl (total-thrice f p xs (λ w i. e w 
     go true t ih = omega (arith, ih, e x (inl refl) t)
     go false t ih = omega (arith, ih)
 
--- no mutex is made by an entry that makes none
+-- an entry that makes no object adds no mutex for which a Yield is reserved
 yields_top : (h : History) (e : Entry) → Follows h → ((m : ℕ) → kind_of (h ▷ e) m ≡ kind_of h m)
     → reserved_yields (h ▷ e) ≡ count_below (place h) (is_robust_owned (h ▷ e))
 yields_top h e f same =
@@ -103,7 +103,7 @@ yields_top h e f same =
     (same (place h) ∙ (Fresh-follows h f).kinds (place h) (omega arith)) in
     rw none (omega arith)
 
--- where no owner changes, as much is reserved for Yields
+-- if no owner changes, as many entries are reserved for Yields
 yields_same : (h : History) (e : Entry) → Follows h → ((m : ℕ) → kind_of (h ▷ e) m ≡ kind_of h m)
     → ((m : ℕ) → owner (h ▷ e) m ≡ owner h m) → reserved_yields (h ▷ e) ≡ reserved_yields h
 yields_same h e f kinds owners =
@@ -112,7 +112,7 @@ yields_same h e f kinds owners =
     (λ m lt. ap (λ k. is_robust k && is_some (owner (h ▷ e) m)) (kinds m)
     ∙ ap (λ o. is_robust (kind_of h m) && is_some o) (owners m))
 
--- where the owner of one mutex alone may change
+-- if the owner of one mutex alone may change, the entries reserved for Yields change by it alone
 yields_turned : (h : History) (e : Entry) → Follows h
     → ((m : ℕ) → kind_of (h ▷ e) m ≡ kind_of h m) → (k : ℕ) → k < place h
     → ((m : ℕ) → (k == m) ≡ false → owner (h ▷ e) m ≡ owner h m)
@@ -125,7 +125,8 @@ yields_turned h e f kinds k lt owners =
     ∙ ap (λ o. is_robust (kind_of h m) && is_some o) (owners m ne)) lt in
     omega (arith, top, turned)
 
--- a Grant uses what was reserved for its call, but for the Yield of a mutex that gets an owner
+-- a Grant uses what was reserved for its call, except an entry for the Yield of a mutex that gets
+-- an owner
 grant_yields : (h : History) (w : WaitingCall) → Follows h → In w (open_calls h)
     → Step h (Grant w.place (grant_outcome h w))
     → reserved_yields (h ▷ Grant w.place (grant_outcome h w))
@@ -215,7 +216,7 @@ need-trip h b f unmoved =
       yields_same h (Trip b) f (λ m. refl) (λ m. owner-trip h b m f),
     )
 
--- a Yield is what was reserved for its mutex
+-- a Yield uses the entry that was reserved for its mutex
 pub need-yield : (h : History) (m : ℕ) → Follows h → is_orphan h m ≡ true
     → need (h ▷ Yield m) + 1 ≡ need h
 need-yield h m f t =
@@ -263,7 +264,7 @@ need-yield h m f t =
         never true = refl
         never false = refl
 
--- an Expire moves a wait, which uses one
+-- an Expire that moves a wait uses one entry
 expire_waits : (h : History) (w : WaitingCall) → Follows h → In w (open_calls h)
     → is_moved h w ≡ false → is_wait w.role ≡ true
     → reserved_in (h ▷ Expire w.place) + 1 ≡ reserved_in h
@@ -287,7 +288,7 @@ expire_waits h w f i un e =
     kept true waits o k = absurd cc
     kept false waits o k = refl
 
--- it ends another call, which used none before
+-- an Expire that ends another call uses all three entries that were reserved for it
 expire_ends : (h : History) (w : WaitingCall) → Follows h → In w (open_calls h)
     → is_moved h w ≡ false → is_wait w.role ≡ false
     → reserved_in (h ▷ Expire w.place) + 3 ≡ reserved_in h
@@ -327,7 +328,7 @@ need_expire h w n f e =
           (λ m. owner-same h (Expire w.place) m f (λ c. refl)),
     )
 
--- the call that a deadline ends isn't moved
+-- the call of an Expire was not moved
 expire_unmoved : (h : History) (j : ℕ) → Step h (Expire j) → is_some (moved h j) ≡ false
 expire_unmoved h _ (expires w s i t) =
     go (is_moved h w) (and_parts (not (is_moved h w)) _ t).0

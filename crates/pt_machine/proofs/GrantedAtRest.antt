@@ -49,12 +49,12 @@ use Rattle.pt_machine.specs.GrantedAtOnce.{IsFree, IsGrantedAtOnce}
 use Rattle.pt_machine.proofs.LockClasses.{has_lock}
 use Rattle.pt_machine.proofs.GrantsAtOnce.{after, comes, comes-open, granted, same_open, touches}
 
--- if the first of two that is there is none, there is neither
+-- if option_or gives none, both options are none
 pub neither : {X : Type 0} (a b : Option X) → option_or a b ≡ None → (a ≡ None) × (b ≡ None)
 neither None b e = (refl, e)
 neither (Some x) b e = absurd cc
 
--- both ways are none
+-- a choice between two options that are none is none
 both_none : {X : Type 0} (b : Bool) (x y : Option X) → x ≡ None → y ≡ None → cond b x y ≡ None
 both_none true x y e f = e
 both_none false x y e f = f
@@ -114,7 +114,7 @@ module _ (h : History) (f : Follows h) (c : ℕ) (call : Asked) (had : IsGranted
         sym (candidates h f o)
         ∙ none_serves h f o (λ v i at e. false≢true (sym (none-served h known.quiet v i) ∙ e))
 
-    -- its client waits no more
+    -- its client no longer waits
     closed : open_call_if t (Some c) ≡ None
     closed = go (open_call_if t (Some c)) refl
       where
@@ -127,7 +127,7 @@ module _ (h : History) (f : Follows h) (c : ℕ) (call : Asked) (had : IsGranted
             let none : open_call_if h (Some c) ≡ None = ap (waiting_if h) known.unblocked in
             sym was ∙ none
 
-    -- the owner of each mutex
+    -- the owner of each mutex after the Grant
     owner_of : (m : ℕ) → owner t m
         ≡ cond (is_acquired x && is_number (mutex_of w.role w.object) m) (Some c) (owner h m)
     owner_of m =
@@ -168,7 +168,7 @@ module _ (h : History) (f : Follows h) (c : ℕ) (call : Asked) (had : IsGranted
         (neither (forced_service h) (option_or (forced_yield h) (forced_expire h))
         known.quiet).1).1
 
-    -- a mutex has no call to serve: it was free, and has an owner now unless it is lost
+    -- a mutex has no call to serve: it was free, and now has an owner unless it is not recoverable
     same_consistency : consistency t o ≡ consistency h o
     same_consistency =
         ap (λ (q : Operation). cond (frees h o c (unlocks_to_wait h q o))

@@ -1,4 +1,4 @@
--- GrantedLocks: a call for a lock of each kind that is granted as it comes, as the tables have it.
+-- GrantedLocks: calls for each kind of lock that are granted as they come, as the tables have them.
 use Rattle.std.proofs.Common.{◌≡◌, ℕ, ◌+◌, ◌&&◌, Bool, true, false, cond, Some}
 use Rattle.std.proofs.Common.{None, is_none, refl, sym, ap, ◌∙◌, subst}
 use Rattle.std.specs.Prelude.{IsSome}
@@ -40,7 +40,7 @@ pub asks-for : (h : History) (c : ℕ) (call : Asked) → IsGrantedAtOnce h c ca
 asks-for h c call had r asks =
     rw (asks.object ∙ (ap (object_meant h) had.asks ∙ had.found)) refl
 
--- and of this kind
+-- and the lock is of the kind that it asks for
 module _ (h : History) (c : ℕ) (call : Asked) (had : IsGrantedAtOnce h c call) where
   pub for-mutex : asks_for_mutex (operation call) ≡ true → had.kind ≡ MutexLock
   for-mutex e = go had.kind (sym (ap asks_for_mutex had.asks) ∙ e)
@@ -134,7 +134,7 @@ module _ {A : Type 0} (old : State A) (c : ℕ) (call : Asked) (o : ℕ) (kind :
         adds.first.read.callers waits
         (found-known between.clients c (Some waits) (sym adds.found)))
 
-    -- with what is used of what was reserved
+    -- the call and its Grant are added, and this many reserved entries are used
     adds-used : (used : ℕ)
         → used + one_if (gives_owner (past between) waits.call (mutex_of waits.call.role
         waits.call.object)) ≡ 3 → AddsGranted old c call used x new
@@ -161,7 +161,7 @@ module _ {A : Type 0} (old : State A) (c : ℕ) (call : Asked) (o : ℕ) (kind :
         (mutex_of r waits.call.object))) is_for
         ∙ ap (λ q. 3 + one_if (gives_owner (past between) waits.call q)) (none waits.call.object))
 
-    -- and one for a mutex does if that is robust and had none
+    -- a call for a mutex does, if the mutex is robust and had no owner
     module _ (robust : Bool)
         (free : robust ≡ (is_robust (kind_of (past old) o) && is_none (owner (past old) o)))
         (mutex : mutex_of waits.call.role waits.call.object ≡ Some o) (used : ℕ)

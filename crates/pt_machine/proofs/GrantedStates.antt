@@ -77,7 +77,7 @@ free-lock h WriteLock r x f kept e =
     no {b = false} e = refl
     no {b = true} e = absurd cc
 
--- and its row says so if it is
+-- and its row says so if it is free
 pub lock-free : (h : History) (k : LockKind) (r : ℕ) (x : RwlockState) → Follows h
     → IsRwlock h r x → kind_of h r ≡ Some Rwlock
     → option_map class_of (kind_of h r) ≡ Some (class_needed k) → IsFree h k r → IsFreeLock k x
@@ -89,7 +89,7 @@ lock-free h WriteLock r x f kept kind class e =
     ap (λ w. is_none w && not (is_read_by x)) (kept.writer ∙ e.0)
     ∙ ap not (read-same h r x f kept ∙ e.1)
 
--- what is found of something is there
+-- an option is some if its image is some
 there : {X Y : Type 0} (f : X → Y) (x : Option X) (y : Y) → option_map f x ≡ Some y → IsSome x
 there f None y e = absurd cc
 there f (Some x) y e = refl
@@ -129,7 +129,7 @@ module _ {A : Type 0} (old mid : State A) (c : ℕ) (call : Asked)
       is_it : called o ≡ its
       is_it = ap (λ x. unwrap_or x its) (in_row (Some o) found)
 
-      -- it is no arrival
+      -- it is not an arrival
       pub no-arrival : is_arrival (called o).role ≡ false
       no-arrival =
           ap (λ (w : WaitingCall). is_arrival w.role) is_it
@@ -151,7 +151,7 @@ module _ {A : Type 0} (old mid : State A) (c : ℕ) (call : Asked)
           ap forced same
           ∙ (serves h ready.read.follows c call had ready.step ∙ ap Some (sym serves_it))
 
-      -- what is used of what was reserved
+      -- how many reserved entries its Grant uses
       pub uses : IsReadyFor mid (service (past mid) (called o)) → (used : ℕ)
           → used + one_if (gives_owner (past mid) (called o) (mutex_of (called o).role
           (called o).object))
@@ -160,7 +160,7 @@ module _ {A : Type 0} (old mid : State A) (c : ℕ) (call : Asked)
       uses next used e =
           uses-grant (past mid) (called o) a.read.follows is_open no-arrival next.step used e
 
-      -- as much is reserved after the call as its plan says
+      -- after the call, as many entries are reserved as its plan says
       pub reserves : (plan : Plan) → IsPlanned h (event.Call c call) plan
           → IsReserved (past mid) plan.need
       reserves plan planned =
@@ -179,7 +179,7 @@ module _ {A : Type 0} (old mid : State A) (c : ℕ) (call : Asked)
             (serves_it ∙ grants h ready.read.follows c call had ready.step)
             ∙ ap (λ y. y ▷ Grant (place h) (grant_outcome g its)) same)
 
-        -- nothing must follow
+        -- nothing must follow its Grant
         pub rests-granted : IsReadyFor mid (service (past mid) (called o))
             → forced (past new) ≡ None
         rests-granted r =
@@ -189,7 +189,7 @@ module _ {A : Type 0} (old mid : State A) (c : ℕ) (call : Asked)
             (serves_it ∙ grants h ready.read.follows c call had ready.step)
             (subst (λ (y : History). Step y (service (past mid) (called o))) same r.step))
 
-        -- the call is answered so
+        -- the call is answered with the outcome of its Grant
         pub told-granted : (y : Outcome) → y ≡ grant_outcome (past mid) (called o)
             → outcome (past new) (place h) ≡ Some y
         told-granted y told =
@@ -223,13 +223,13 @@ module _ {A : Type 0} (old mid : State A) (c : ℕ) (call : Asked)
                 (In-filter (is_open_by g (outcome g)) (stood g) its
                 (comes-open h ready.read.follows c call had ready.step)).0
 
-        -- the queues stay
+        -- the queues are unchanged
         pub queued-granted : (v : QueuesView) → IsQueued h v → IsQueued (past new) v
         queued-granted v k =
             subst (λ (y : History). IsQueued y v) (sym ends)
             (queued h ready.read.follows c call had ready.step (grant_outcome g its) v k)
 
-        -- the deadlines that are set stay
+        -- the deadlines that are set are unchanged
         pub timed-granted : (timers : List (ℕ × (Clock × ℕ))) → AreTimed h timers
             → AreTimed (past new) timers
         timed-granted timers t =
@@ -237,7 +237,7 @@ module _ {A : Type 0} (old mid : State A) (c : ℕ) (call : Asked)
             (λ p. t p
             ∙ sym (timed h ready.read.follows c call had ready.step (grant_outcome g its) p))
 
-        -- what is touched is what the call touched
+        -- the object touched is the one that the call touched
         pub touched-granted : (plan : Plan) → IsPlanned h (event.Call c call) plan
             → IsTouched (past new) plan.touched (Some c)
         touched-granted plan planned =

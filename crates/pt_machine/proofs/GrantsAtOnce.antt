@@ -60,7 +60,7 @@ use Rattle.pt_machine.proofs.TimedCalls.{set-left}
 use Rattle.pt_machine.proofs.TimedStates.{unset}
 use Rattle.pt_machine.proofs.TimedSteps.{set-grant, set-new}
 
--- a lesser number is another
+-- a number that is less than another is not equal to it
 apart_below : (a b : ℕ) → a < b → (a == b) ≡ false
 apart_below a b lt = grind (arith, nat_tests)
 
@@ -74,7 +74,7 @@ lower a b lt =
 
 module _ (h : History) (f : Follows h) (c : ℕ) (call : Asked) (had : IsGrantedAtOnce h c call)
     (s : Step h (Call c call None)) where
-  -- after the call
+  -- the history after the call
   abbrev pub after : History
   after = h ▷ Call c call None
 
@@ -102,7 +102,7 @@ module _ (h : History) (f : Follows h) (c : ℕ) (call : Asked) (had : IsGranted
       subst (λ (ws : List WaitingCall). In comes ws) (sym opens)
       (In-append_right comes (open_calls h) (comes ∷ []) (inl refl))
 
-  -- it is no arrival
+  -- it is not an arrival
   pub comes-stays : is_arrival comes.role ≡ false
   comes-stays = go had.kind
     where
@@ -143,7 +143,7 @@ module _ (h : History) (f : Follows h) (c : ℕ) (call : Asked) (had : IsGranted
           (In-append_cases w (open_calls h) (comes ∷ [])
           (subst (λ (ws : List WaitingCall). In w ws) opens i))
 
-  -- nobody's lock on it has changed
+  -- who holds the lock has not changed
   stays_locked : unlocks_to_wait h (operation call) had.object ≡ false
   stays_locked = ap (λ (d : Operation). unlocks_to_wait h d had.object) had.asks
 
@@ -156,7 +156,7 @@ module _ (h : History) (f : Follows h) (c : ℕ) (call : Asked) (had : IsGranted
   owner_kept =
       owner-same h (Call c call None) had.object f (λ d. ap (nat_lt 0) (counted d))
 
-  -- it would be left waiting
+  -- it is left waiting
   pub stands : stood_by h (Call c call None) ≡ comes ∷ []
   stands =
       ap (stood_by_operation h c (clock_of call)) had.asks
@@ -230,7 +230,7 @@ module _ (h : History) (f : Follows h) (c : ℕ) (call : Asked) (had : IsGranted
       go WriteLock e free (Some (kind_is.Barrier n)) t =
           absurd (has_lock WriteLock (Some (kind_is.Barrier n)) t)
 
-  -- what is touched is the lock
+  -- the object touched is the lock
   pub touches : touched after ≡ Some had.object
   touches =
       ap (goal_of_operation h) had.asks ∙ ap (λ o. Some (unwrap_or o 0)) had.found
@@ -249,14 +249,14 @@ module _ (h : History) (f : Follows h) (c : ℕ) (call : Asked) (had : IsGranted
       comes-stays
 
   module _ (x : Outcome) where
-    -- after its Grant
+    -- the history after its Grant
     abbrev pub granted : History
     granted = after ▷ Grant (place h) x
 
     abbrev remains : WaitingCall → Bool
     remains w = not (w.place == place h)
 
-    -- the open calls are those before it came
+    -- the open calls are the same as before it came
     pub same_open : open_calls granted ≡ open_calls h
     same_open =
         open-grant after (place h) x
@@ -273,7 +273,7 @@ module _ (h : History) (f : Follows h) (c : ℕ) (call : Asked) (had : IsGranted
             let lt : w.place < place h = (below_open h w (Fresh-follows h f) i).0 in
             ap not (apart_below w.place (place h) lt)
 
-    -- the queues stay
+    -- the queues are unchanged
     pub queued : (v : QueuesView) → IsQueued h v → IsQueued granted v
     queued v k =
         record {
@@ -283,7 +283,7 @@ module _ (h : History) (f : Follows h) (c : ℕ) (call : Asked) (had : IsGranted
           makes = k.makes;
         }
 
-    -- and so do the deadlines that are set
+    -- and so are the deadlines that are set
     pub timed : (p : ℕ) → set_at granted p ≡ set_at h p
     timed p =
         set-grant after (place h) x follows p

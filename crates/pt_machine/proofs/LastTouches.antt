@@ -1,4 +1,4 @@
--- LastTouches: what is touched, and whose call came last, as entries are pushed.
+-- LastTouches: the object touched, and the client whose call came last, as entries are pushed.
 use Rattle.std.proofs.Common.{◌≡◌, ℕ, Bool, true, false, cond, List, Option, Some, None, refl, sym}
 use Rattle.std.proofs.Common.{ap, ◌∙◌, subst}
 use Rattle.std.specs.Prelude.{unwrap_or}
@@ -31,7 +31,7 @@ use Rattle.pt_state.specs.Serving.{called, entry_of}
 use Rattle.pt_machine.specs.LastTouched.{IsTouched}
 use Rattle.pt_machine.proofs.QueuedSame.{past-adds, past-stays}
 
--- the mutex of a wait that comes is there
+-- the mutex that a new wait names exists
 pub awaited-there : (h : History) (c : ℕ) (call : Asked) (n m : List ℕ) (d : Option Timespec)
     → Step h (Call c call None) → operation call ≡ Awaits n m d
     → find h m MutexClass ≡ Some (meant h m MutexClass)
@@ -39,7 +39,7 @@ awaited-there h c call n m d step is =
     let known = (resolved h c call).awaited n m d is (sym (called_by h c call None step).told) in
     known.1 ∙ ap (λ (o : Option ℕ). Some (unwrap_or o 0)) (sym known.1)
 
--- an outer entry makes what is touched new
+-- what an outer entry touches does not depend on what was touched before
 outer-touches : (h : History) (e : Entry) → is_forced e ≡ false → (before : Option ℕ)
     → touched_by h e ≡ touched_after h e before
 outer-touches h (Join c p) n before = refl
@@ -51,7 +51,7 @@ outer-touches h (Trip b) n before = absurd cc
 outer-touches h (Yield m) n before = refl
 outer-touches h (Expire j) n before = refl
 
--- a forced entry is nobody's call
+-- after a forced entry, the call that came last is still the same client's
 forced-enters : (e : Entry) → is_forced e ≡ true → (before : Option ℕ)
     → before ≡ entering_by e before
 forced-enters (Join c p) n before = absurd cc
@@ -70,7 +70,7 @@ service-forced h w = go (is_arrival w.role)
     go true = refl
     go false = refl
 
--- a Grant touches nothing else
+-- the object touched is the same after a Grant
 pub still-touched : (h : History) (w : WaitingCall) → is_arrival w.role ≡ false
     → touched h ≡ touched (h ▷ service h w)
 still-touched h w e = go (is_arrival w.role) e
@@ -109,7 +109,7 @@ module _ {A : Type 0} (old new : State A) (o c : Option ℕ) where
             (entering (past old));
       })
 
-  -- where no entry was pushed
+  -- if no entry was pushed
   pub touched-stays : Stays old new → IsTouched (past old) o c → IsTouched (past new) o c
   touched-stays s k =
       subst (λ (h : History). IsTouched h o c) (sym (past-stays old new s)) k

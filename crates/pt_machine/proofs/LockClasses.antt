@@ -1,4 +1,4 @@
--- LockClasses: which objects have a lock of a kind.
+-- LockClasses: the objects that have a lock of a kind.
 use Rattle.std.proofs.Common.{◌≡◌, Option, Some, None}
 use Rattle.std.specs.Prelude.{option_map}
 use Rattle.pt_types.specs.declared.call.ObjectKind.{ObjectKind}

@@ -1,4 +1,4 @@
--- NeedLimits: no more objects exist than may, and no more entries are reserved than all may need.
+-- NeedLimits: the number of objects is within its limit, and so is the need.
 use Rattle.std.proofs.Common.{◌≡◌, ℕ, suc, ◌*◌, ◌<◌, ◌≤◌, nat_le, Bool, true, false, cond, List, []}
 use Rattle.std.proofs.Common.{◌∷◌, filter, length, Option, Some, None, refl, sym, ap, arith}
 use Rattle.std.proofs.lemmas.Bool.Decides.{nat_tests}
@@ -88,7 +88,7 @@ objects-most h f =
     by_steps (λ h. objects h ≤ most_objects) (omega arith) (λ h e f le s. objects_step h le e s)
     (λ h f le. le) h f
 
--- three are reserved for a call at most
+-- at most three entries are reserved for each call
 reserved_most : (h : History) (ws : List WaitingCall) → total (reserved_for h) ws ≤ 3 * length ws
 reserved_most h [] = omega arith
 reserved_most h (w ∷ ws) = omega (arith, three (is_moved h w), reserved_most h ws)
@@ -97,7 +97,7 @@ reserved_most h (w ∷ ws) = omega (arith, three (is_moved h w), reserved_most h
     three true = omega arith
     three false = omega arith
 
--- by the limits of clients and of objects
+-- the need is limited, since the numbers of clients and of objects are
 pub need-most : {A : Type 0} (s : State A) → AreTables s → need (past s) ≤ 8192
 need-most s r =
     let h = past s in

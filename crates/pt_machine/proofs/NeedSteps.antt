@@ -1,4 +1,4 @@
--- NeedSteps: the entries that are kept count of, as entries are pushed.
+-- NeedSteps: the number of reserved entries, as entries are pushed.
 use Rattle.std.proofs.Common.{◌≡◌, ℕ, ◌+◌, ◌-◌, false, refl, sym, subst, arith}
 use Rattle.pt_model.specs.declared.entry.Entry.{Entry}
 use Rattle.pt_model.specs.declared.entry.Event.{Event}
@@ -14,14 +14,14 @@ use Rattle.pt_state.proofs.NeedLemmas.{need-step}
 use Rattle.pt_machine.specs.Reserved.{IsReserved}
 use Rattle.pt_machine.proofs.QueuedSame.{past-adds}
 
--- an event's entry is no forced one
+-- an event's own entry is not forced
 pub event-outer : (h : History) (v : Event) → is_forced (entry_for h v) ≡ false
 event-outer h (event.Join p) = refl
 event-outer h (event.Call c call) = refl
 event-outer h (event.Death c) = refl
 event-outer h (event.Moment k t) = refl
 
--- what is reserved after an event's entry, by what is added and what is used
+-- the need after an event's entry, by what the entry adds and uses
 pub need-event : (h : History) (v : Event) → Follows h → Step h (entry_for h v)
     → need (h ▷ entry_for h v) + used_by h (entry_for h v) ≡ need h + added_by (entry_for h v)
 need-event h v f s = need-step h (entry_for h v) f s (event-outer h v)

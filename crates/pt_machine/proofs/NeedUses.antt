@@ -1,4 +1,4 @@
--- NeedUses: what an entry that must follow uses of what was reserved.
+-- NeedUses: how many reserved entries a forced entry uses.
 use Rattle.std.proofs.Common.{◌≡◌, ℕ, ◌+◌, ◌-◌, ◌*◌, ◌≤◌, Bool, true, false, cond, ◌&&◌, length}
 use Rattle.std.proofs.Common.{List, Option, Some, None, is_some, is_none, option_map, refl, sym, ap}
 use Rattle.std.proofs.Common.{◌∙◌, subst, arith}
@@ -44,7 +44,7 @@ arrives ForRead e = absurd cc
 arrives ForWrite e = absurd cc
 arrives (ForCond m) e = absurd cc
 
--- a call for a mutex is no arrival
+-- a call for a mutex is not an arrival
 pub no_arrival : (role : Role) → (object m : ℕ) → mutex_of role object ≡ Some m
     → is_arrival role ≡ false
 no_arrival ForMutex object m e = refl
@@ -60,13 +60,13 @@ serves-mutex h w m at =
     ap (λ b. cond b (Trip w.object) (Grant w.place (grant_outcome h w)))
     (no_arrival w.role w.object m at)
 
--- as much is reserved for a call as its row says
+-- as many entries are reserved for a call as its row says
 pub row-reserved : (h : History) (rows : List (ClientRow Caller)) → Follows h → AreCallers h rows
     → (o : Open) → In o (opens_of rows) → reserved_open o ≡ reserved_for h (called o)
 row-reserved h rows f a o i =
     ap (λ m. cond {A = ℕ} (is_some m) 2 3) ((are-open h rows f a).known o i).1
 
--- it is two at least
+-- at least two entries are reserved for a call
 pub two-least : (h : History) (w : WaitingCall) → 2 ≤ reserved_for h w
 two-least h w = go (is_moved h w)
   where
@@ -75,7 +75,7 @@ two-least h w = go (is_moved h w)
     go false = omega arith
 
 module _ (h : History) (w : WaitingCall) (f : Follows h) where
-  -- an arrival stands at a barrier
+  -- the object of an arrival is a barrier
   pub arrival-barrier : In w (open_calls h) → is_arrival w.role ≡ true
       → option_map class_of (kind_of h w.object) ≡ Some BarrierClass
   arrival-barrier i a = go w.role a (moved h w.place) (housed h f w i)
@@ -108,7 +108,8 @@ module _ (h : History) (w : WaitingCall) (f : Follows h) where
       (λ v i t. ap is_some (plain-stays h f v i (arrives v.role t))) in
       rw a (omega (arith, trips, e))
 
-  -- a Grant uses what was reserved for its call, but for the Yield of a mutex that gets an owner
+  -- a Grant uses what was reserved for its call, except an entry for the Yield of a mutex that gets
+  -- an owner
   pub uses-grant : In w (open_calls h) → is_arrival w.role ≡ false → Step h (service h w)
       → (used : ℕ)
       → used + one_if (gives_owner h w (mutex_of w.role w.object)) ≡ reserved_for h w
@@ -119,7 +120,7 @@ module _ (h : History) (w : WaitingCall) (f : Follows h) where
       let grants = need-grant h w f i (subst (λ x. Step h x) is s) in
       subst (λ x. need (h ▷ x) + used ≡ need h) (sym is) (omega (arith, grants, e))
 
-  -- the same of a call for a mutex, by what it gets there
+  -- the same for a call for a mutex, by the outcome that it gets there
   pub uses-gain : In w (open_calls h) → (m : ℕ) → mutex_of w.role w.object ≡ Some m
       → Step h (service h w) → (robust : Bool)
       → robust ≡ (is_robust (kind_of h m) && is_none (owner h m))
@@ -144,7 +145,7 @@ module _ (h : History) (w : WaitingCall) (f : Follows h) where
 orphan_taken : (h : History) (m : ℕ) → Step h (Yield m) → is_orphan h m ≡ true
 orphan_taken h _ (yields m s o) = o
 
--- a Yield is what was reserved for its mutex
+-- a Yield uses the entry that was reserved for its mutex
 pub uses-yield : (h : History) (m : ℕ) → Follows h → Step h (Yield m)
     → need (h ▷ Yield m) + 1 ≡ need h
 uses-yield h m f s = need-yield h m f (orphan_taken h m s)

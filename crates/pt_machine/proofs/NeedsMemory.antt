@@ -1,4 +1,4 @@
--- What follows where a call needs no memory to wait.
+-- What follows if a call needs no memory to wait.
 use Rattle.std.proofs.Common.{◌≡◌, Bool, true, false, ◌||◌, Some, is_some, refl, ap}
 use Rattle.pt_types.specs.Times.{Timespec}
 use Rattle.pt_types.specs.Operations.{Operation}

@@ -1,4 +1,4 @@
--- Where nothing is forced, no open call has a deadline that is no time.
+-- If nothing is forced, no open call has a deadline that is not a time.
 use Rattle.std.proofs.lemmas.Bool.{false≢true}
 use Rattle.std.proofs.Common.{nat_le, ◌%◌, ◌≡◌, ℕ, ◌<◌, ◌⊎◌, inl, inr, true, false, cond, not, ◌==◌}
 use Rattle.std.proofs.Common.{List, Option, Some, None, refl, sym, ap, ◌∙◌, subst, arith}
@@ -38,7 +38,7 @@ use Rattle.pt_model.proofs.Opens.{left, was_open, open-grant}
 use Rattle.pt_machine.specs.Timed.{written, asked, timed}
 use Rattle.pt_machine.proofs.BadDeadlines.{bad-granted}
 
--- a later entry says nothing of it
+-- an entry at another place does not change the deadline that was given at a place
 timed_still : (h : History) (e : Entry) (j : ℕ) → (place h == j) ≡ false → timed (h ▷ e) j
     ≡ timed h j
 timed_still h (Call c call r) j ne = rw ne refl
@@ -50,7 +50,7 @@ timed_still h (Trip b) j ne = refl
 timed_still h (Yield m) j ne = refl
 timed_still h (Expire k) j ne = refl
 
--- an open call came before this place
+-- an open call came before the new entry, which does not change the deadline that it gave
 pub timed_old : (h : History) (e : Entry) (w : WaitingCall) → Follows h → In w (open_calls h)
     → timed (h ▷ e) w.place ≡ timed h w.place
 timed_old h e w f i =
@@ -58,8 +58,8 @@ timed_old h e w f i =
     let ne : (place h == w.place) ≡ false = grind (arith, nat_tests) in
     timed_still h e w.place ne
 
--- what an operation leaves waiting came at this place, and has the deadline that was written, by
--- this clock
+-- a call that an operation leaves waiting came at this place, and has the deadline that was given,
+-- by this clock
 operation_timed : (h : History) (c : ℕ) (z : Clock) (d : Operation) (w : WaitingCall)
     → In w (stood_by_operation h c z d)
     → (w.place ≡ place h) × (w.deadline ≡ option_map deadline_nanos (asked d)) × (w.clock ≡ z)
@@ -89,7 +89,7 @@ operation_timed h c z (Rwunlocks n) w i = absurd i
 operation_timed h c z (Signals n) w i = absurd i
 operation_timed h c z (Broadcasts n) w i = absurd i
 
--- the same of a call
+-- the same for a call
 pub stood_timed : (h : History) (c : ℕ) (call : Asked) (r : Option Outcome) (w : WaitingCall)
     → In w (stood_by h (Call c call r))
     → (w.place ≡ place h) × (w.deadline ≡ option_map deadline_nanos (asked (operation call)))
@@ -97,7 +97,7 @@ pub stood_timed : (h : History) (c : ℕ) (call : Asked) (r : Option Outcome) (w
 stood_timed h c call None w i = operation_timed h c (clock_of call) (operation call) w i
 stood_timed h c call (Some x) w i = absurd i
 
--- so does the call that an entry leaves waiting
+-- the call that an entry leaves waiting has the deadline that was given
 pub left_timed : (h : History) (c : ℕ) (call : Asked) (r : Option Outcome) (w : WaitingCall)
     → In w (left_by (effect h c call r))
     → (timed (h ▷ Call c call r) w.place ≡ asked (operation call))
@@ -110,13 +110,13 @@ left_timed h c call r w i =
     let here : (place h == w.place) ≡ true = grind (arith, nat_tests) in
     (ap (λ b. cond b (asked (operation call)) (timed h w.place)) here, p.1, p.2)
 
--- an open call keeps the nanoseconds of its deadline
+-- each open call has the nanoseconds of the deadline that it gave
 abbrev pub Kept : History → Type 0
 Kept h =
     (w : WaitingCall) → In w (open_calls h)
     → w.deadline ≡ option_map deadline_nanos (timed h w.place)
 
--- each entry keeps it so
+-- each entry preserves this
 kept_step : (h : History) (e : Entry) → Follows h → Kept h → Step h e → (w : WaitingCall)
     → In w (open_calls h) ⊎ In w (left h e)
     → w.deadline ≡ option_map deadline_nanos (timed (h ▷ e) w.place)
@@ -147,7 +147,7 @@ written_good (Some n) e =
     let no : nat_le 1000000000 (n % 1000000000) ≡ false = grind (arith, nat_tests) in
     false≢true (sym no ∙ e)
 
--- an open call has the nanoseconds of the deadline that was written
+-- in every history, an open call has the nanoseconds of the deadline that it gave
 pub deadline-kept : (h : History) → Follows h → (w : WaitingCall) → In w (open_calls h)
     → w.deadline ≡ option_map deadline_nanos (timed h w.place)
 deadline-kept h f =
@@ -156,13 +156,13 @@ deadline-kept h f =
     ∙ ap (λ o. option_map deadline_nanos (option_map written (deadline_if o)))
     (sym (found_open (Begin (seal h)) (start-seal h f) w i))) h f
 
--- an open call whose deadline is no time is granted by the next entry
+-- an open call whose deadline is not a time is granted by the next entry
 abbrev pub GrantsBad : History → Type 0
 GrantsBad h =
     (w : WaitingCall) → In w (open_calls h) → has_bad_deadline (timed h w.place) ≡ true
     → forced h ≡ Some (Grant w.place (grant_outcome h w))
 
--- what is none is no entry, and one entry is no other
+-- an option is not both none and an entry, nor two different entries
 not_forced : (x : Option Entry) (e : Entry) → x ≡ None → x ≡ Some e → ⊥
 not_forced None e n s = absurd cc
 not_forced (Some y) e n s = cc
@@ -187,7 +187,7 @@ not_expired : (x : Option Entry) (b k : ℕ) (z : Outcome) → x ≡ Some (Expir
 not_expired x b k z a e =
     let both : ◌≡◌ {A = Option Entry} (Some (Expire b)) (Some (Grant k z)) = sym a ∙ e in cc
 
--- no step but its Grant comes after such a call
+-- the entry after such a call is its Grant, so no entry leaves the call open
 no_other : (h : History) (e : Entry) → Step h e → (w : WaitingCall) → In w (open_calls (h ▷ e))
     → forced h ≡ Some (Grant w.place (grant_outcome h w)) → ⊥
 no_other h _ (joins p n lt) w i t = not_forced (forced h) _ n t
@@ -205,7 +205,7 @@ no_other h _ (grants v s j g) w i t =
     (subst (λ (us : List WaitingCall). In w us) (open-grant h v.place (grant_outcome h v)) i)).1 in
     absurd (grind (arith, nat_tests))
 
--- so each entry keeps it so
+-- so each entry preserves this
 bad_step : (h : History) (e : Entry) → Follows h → GrantsBad h → Step h e → (w : WaitingCall)
     → In w (open_calls (h ▷ e)) → has_bad_deadline (timed (h ▷ e) w.place) ≡ true
     → In w (open_calls h) ⊎ In w (left h e)
@@ -223,7 +223,7 @@ bad_step h _ f b (trips u s j t) w i bad (inr k) = absurd k
 bad_step h _ f b (yields m s t) w i bad (inr k) = absurd k
 bad_step h _ f b (expires u s j t) w i bad (inr k) = absurd k
 
--- and it is so of each history
+-- and it holds for every history
 pub grants-bad : (h : History) → Follows h → GrantsBad h
 grants-bad h f =
     by_steps GrantsBad (λ w i bad. absurd i)
@@ -231,7 +231,7 @@ grants-bad h f =
     (λ h f b w i bad. absurd (written_good
     (deadline_if (at_place w.place (stood (Begin (seal h))))) bad)) h f
 
--- so none is left where nothing is forced
+-- so there is no such call if nothing is forced
 pub none-bad : (h : History) → Follows h → forced h ≡ None → (w : WaitingCall) → In w (open_calls h)
     → has_bad_deadline (timed h w.place) ≡ false
 none-bad h f n w i =

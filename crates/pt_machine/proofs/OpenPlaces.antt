@@ -1,4 +1,4 @@
--- The open call that came at a place: its client made the call whose entry stands there.
+-- The open call that came at a place: its client made the call whose entry is there.
 use Rattle.std.proofs.Common.{◌≡◌, ℕ, zero, suc, ◌+◌, ◌-◌, ◌<◌, ◌≤◌, ◌⊎◌, inl, inr, Bool, true}
 use Rattle.std.proofs.Common.{false, cond, ◌==◌, List, [], ◌∷◌, ◌++◌, Option, Some, None, IfSome}
 use Rattle.std.proofs.Common.{refl, sym, ap, ◌∙◌, subst, arith}
@@ -62,7 +62,7 @@ place-in p (v ∷ vs) w e = go (v.place == p) refl e (place-in p vs w)
         (inl same, ap (λ (u : WaitingCall). u.place) same ∙ at)
     go false eb q ih = let r = ih q in (inr r.0, r.1)
 
--- where none is found, none came there
+-- if no call is found at a place, none came there
 place_missed : (p : ℕ) (ws : List WaitingCall) (w : WaitingCall) → at_place p ws ≡ None → In w ws
     → w.place ≡ p → ⊥
 place_missed p [] w e i at = i
@@ -85,7 +85,7 @@ place-one p ws w i at one = go (at_place p ws) refl
     go None e = absurd (place_missed p ws w e i at)
     go (Some v) e = let r = place-in p ws v e in ap Some (one v r.0 r.1)
 
--- where none came, none is found
+-- if none came there, none is found
 pub place-none : (p : ℕ) (ws : List WaitingCall) → ((v : WaitingCall) → In v ws → v.place ≡ p → ⊥)
     → at_place p ws ≡ None
 place-none p ws f = go (at_place p ws) refl
@@ -94,7 +94,7 @@ place-none p ws f = go (at_place p ws) refl
     go None e = refl
     go (Some v) e = let r = place-in p ws v e in absurd (f v r.0 r.1)
 
--- an entry at another place says nothing of it
+-- an entry at another place does not change whose call came at a place
 caller_still : (h : History) (e : Entry) (j : ℕ) → (place h == j) ≡ false
     → caller (h ▷ e) j ≡ caller h j
 caller_still h (Call c call r) j ne = rw ne refl
@@ -106,7 +106,7 @@ caller_still h (Trip b) j ne = refl
 caller_still h (Yield m) j ne = refl
 caller_still h (Expire k) j ne = refl
 
--- no call came yet at a place to come
+-- no call has come yet at a place from the next one on
 caller_none : (h : History) (j : ℕ) → place h ≤ j → caller h j ≡ None
 caller_none (Begin s) j le =
     ap client_at (at_place-below j (stood (Begin s))
@@ -116,7 +116,7 @@ caller_none (h ▷ e) j le =
     let ne : (place h == j) ≡ false = grind (arith, nat_tests) in
     caller_still h e j ne ∙ caller_none h j (omega arith)
 
--- the entry that comes now
+-- the client whose call comes with the new entry
 caller_here : (h : History) (e : Entry) → caller (h ▷ e) (place h) ≡ caller_of e
 caller_here h (Call c call r) =
     let here : (place h == place h) ≡ true = grind (arith, nat_tests) in rw here refl
@@ -128,7 +128,7 @@ caller_here h (Trip b) = caller_none h (place h) (omega arith)
 caller_here h (Yield m) = caller_none h (place h) (omega arith)
 caller_here h (Expire k) = caller_none h (place h) (omega arith)
 
--- entries to come say nothing of a place before them
+-- later entries do not change whose call came at an earlier place
 caller_before : (es : List Entry) (h : History) (j : ℕ) → j < place h
     → caller (onto h es) j ≡ caller h j
 caller_before [] h j lt = refl
@@ -136,7 +136,7 @@ caller_before (e ∷ es) h j lt =
     let ne : (place h == j) ≡ false = grind (arith, nat_tests) in
     caller_before es (h ▷ e) j (omega arith) ∙ caller_still h e j ne
 
--- of the entries to come, the one at index i
+-- the client of the call at a later place is that of the later entry at index i
 caller_onto : (es : List Entry) (h : History) (i j : ℕ) → j ≡ place h + i
     → caller (onto h es) j ≡ caller_in (slice_get es i)
 caller_onto [] h i j e = caller_none h j (omega (arith, e))
@@ -156,7 +156,7 @@ caller-stored {A = A} s t view j late =
     here : s.stored.start.at ≤ j
     here = subst (λ (u : State A). u.stored.start.at ≤ j) (sym view) late
 
--- what is found at a place of two lists
+-- the call found at a place in two lists that are joined
 at_place-both : (j : ℕ) (xs ys : List WaitingCall)
     → at_place j (xs ++ ys) ≡ option_or (at_place j xs) (at_place j ys)
 at_place-both j [] ys = refl
@@ -223,7 +223,7 @@ caller-begun {A = A} s t view rows same j lt =
     found None = refl
     found (Some r) = refl
 
--- what a call leaves waiting came at its place, and is its client's
+-- a call that is left waiting came at the next place, and is its caller's
 left_came : (h : History) (c : ℕ) (E : Effect) → Allowed h c E → (w : WaitingCall)
     → In w (left_by E) → (w.place ≡ place h) × (w.client ≡ c)
 left_came h c (Waits v) a w (inl e) = (
@@ -240,7 +240,7 @@ left_came h c (Mends m) a w i = absurd i
 left_came h c (Returns r) a w i = absurd i
 left_came h c (Wakes n all) a w i = absurd i
 
--- each entry keeps it so that an open call's client made the call at its place
+-- each entry preserves that an open call's client made the call at its place
 caller_step : (h : History) (e : Entry) → Follows h
     → ((w : WaitingCall) → In w (open_calls h) → caller h w.place ≡ Some w.client) → Step h e
     → (w : WaitingCall) → In w (open_calls h) ⊎ In w (left h e)
@@ -281,7 +281,7 @@ client-in rows c o e = go (client_value rows c) refl e
         let r = look-row rows c v q in
         row-open rows r.0 o r.1.0 (ap (λ (u : Caller). u.open) r.1.2 ∙ s)
 
--- so is one that is stored
+-- so is one that is found by its place
 pub kept-in : (rows : List (ClientRow Caller)) (c p : ℕ) (found : Option Open)
     → found ≡ keep (λ o. o.call.place == p) (open_in (client_value rows c))
     → IfSome found (λ o. In o (opens_of rows))
@@ -299,7 +299,7 @@ kept-in rows c p (Some o) e = go (open_in (client_value rows c)) refl e
     go (Some u) k q = test (u.call.place == p) u (client-in rows c u k) q
 
 module _ (h : History) (f : Follows h) where
-  -- where the entry at a place is no call, no open call came there
+  -- if the entry at a place is not a call, no open call came there
   pub none-came : (p : ℕ) → None ≡ caller h p → at_place p (open_calls h) ≡ None
   none-came p e =
       place-none p (open_calls h)
@@ -307,7 +307,8 @@ module _ (h : History) (f : Follows h) where
       e ∙ ap (caller h) (sym at) ∙ open-caller h f v i in
       absurd cc)
 
-  -- where it is a client's call, the open call that came there is that of its row, if that did
+  -- if it is a client's call, the open call that came there is the one in the client's row, if that
+  -- one came there
   pub client-came : (rows : List (ClientRow Caller)) → AreCallers h rows → (p c : ℕ)
       → Some c ≡ caller h p
       → option_map called (keep (λ o. o.call.place == p) (open_in (client_value rows c)))

@@ -44,7 +44,7 @@ came h c (Mends m) a t w i = absurd i
 came h c (Returns r) a t w i = absurd i
 came h c (Wakes n all) a t w i = absurd i
 
--- who joins is none of those who have open calls
+-- a client that joins is none of those that have open calls
 joined : (h : History) (p : ℕ) → Follows h → (w : WaitingCall) → In w (open_calls h)
     → client h w.client ≡ Some w.priority
     → client (h ▷ Join (place h) p) w.client ≡ Some w.priority
@@ -53,7 +53,7 @@ joined h p f w i e =
     let ne : (place h == w.client) ≡ false = grind (arith, nat_tests) in
     rw ne e
 
--- who dies has no open call any more
+-- a client that dies has no open call any more
 died : (h : History) (c : ℕ) (w : WaitingCall) → is_alive (h ▷ Death c) w.client ≡ true
     → client h w.client ≡ Some w.priority → client (h ▷ Death c) w.client ≡ Some w.priority
 died h c w t e = go (c == w.client) t

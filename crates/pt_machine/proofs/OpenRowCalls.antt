@@ -39,12 +39,12 @@ module _ (h : History) (rows : List (ClientRow Caller)) (f : Follows h) (a : Are
         go (Some w) e =
             let i = call_of-in (open_calls h) c w e in sym (open_call-found h f w c i.0 i.1)
 
-    -- what a client's row has is its open call
+    -- the call in a client's row is its open call
     pub row-call : (c : ℕ) (found : Option Open) → found ≡ open_in (client_value rows c)
         → option_map called found ≡ open_call_of h c
     row-call c found e = ap (option_map called) e ∙ (a.look.calls c ∙ call-same c)
 
-    -- an open call waits at the object that its row says
+    -- an open call waits at the object that its row gives
     pub row-object : (o : Open) → In o (opens_of rows) → object_of o ≡ at_object h (called o)
     row-object o i = object-same h o ((are-open h rows f a).known o i).1
 
@@ -56,7 +56,7 @@ module _ (h : History) (rows : List (ClientRow Caller)) (f : Follows h) (a : Are
         ap Some (row-object o (found-known rows c (Some o) e))
         ∙ ap (object_if h) (row-call c (Some o) e)
 
-    -- what a call in the rows is for in the end
+    -- the object that a call in the rows is for in the end
     pub row-goal : (o : Open) → In o (opens_of rows)
         → Some (goal (called o).role o.call.object) ≡ goal_if (at_place o.call.place (stood h))
     row-goal o i = sym (ap goal_if (found_open h f (called o) ((are-open h rows f a).known o i).0))

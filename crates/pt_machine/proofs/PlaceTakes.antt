@@ -1,4 +1,4 @@
--- What a client's row has of its open call is the call that takes its place.
+-- The open call in a client's row is the call that takes its place in a queue.
 use Rattle.std.proofs.Common.{◌≡◌, ℕ, ◌==◌, true, false, cond, List, Option, Some, None, option_map}
 use Rattle.std.proofs.Common.{refl, sym, ap, ◌∙◌, subst}
 use Rattle.pt_table.specs.declared.clients.ClientRow.{ClientRow}
@@ -43,7 +43,7 @@ row-there h rows f a c none w i e =
     ∙ (a.look.calls c ∙ first-call h f c w i e) in
     cc
 
--- what its row has of it is its object, and its waiter with the client's priority
+-- its row gives its object, and its waiter with the client's priority
 pub takes :
     (h : History) (rows : List (ClientRow Caller)) → Follows h → AreCallers h rows
     → (c object : ℕ) (v : Waiter) (r : Caller) (o : Open)
@@ -95,7 +95,7 @@ takes h rows f a c object v r o kept has at is =
 
 module _ {h : History} {c object : ℕ} {v : Waiter} {queues : QueuesView} (s : CanStand h c queues)
     (t : Takes h c object v) where
-  -- it is the client's own
+  -- the waiter is the client's own
   own : v.client ≡ c
   own = ap (λ (x : Waiter). x.client) (t.same s.call s.open s.its) ∙ s.its
 
@@ -114,7 +114,7 @@ module _ {h : History} {c object : ℕ} {v : Waiter} {queues : QueuesView} (s : 
       (subst (λ (q : ℕ). IsLatest (waiter h s.call) (queues.queue q))
       (sym (t.seat s.call s.open s.its)) s.latest)
 
--- the queue in which it takes its place
+-- the queues after it has taken its place
 pub take-put :
     (h : History) (c object : ℕ) (v : Waiter) → Takes h c object v
     → (queue queue' : ℕ → List Waiter)

@@ -22,7 +22,7 @@ use Rattle.pt_machine.specs.Queued.{waiter}
 use Rattle.pt_machine.proofs.Membership.{in-list}
 use Rattle.pt_machine.proofs.QueueFirsts.{stands}
 
--- what does not go before another has no higher priority
+-- a key that does not go before another has no higher priority
 no_higher : (a b : Key) (p : ℕ) → goes_before a b ≡ false → b.priority < p → a.priority < p
 no_higher a b p e lt = go (nat_lt b.priority a.priority) refl
   where
@@ -36,13 +36,13 @@ module _ (h : History) (queue : ℕ → List Waiter)
   abbrev here : WaitingCall → Bool
   here w = at_object h w == q
 
-  -- all have a lower priority than this if none waits
+  -- all calls there have a lower priority than this if none waits
   pub ahead-none : first ≡ None → IsAhead h p q
   ahead-none s =
       λ w i t. absurd (head-none (queue q) (sym e ∙ s) (waiter h w)
       (stands h queue m follows q here (λ w i. refl) w i t))
 
-  -- or if the first has
+  -- or if the first has a lower one
   pub ahead-first : (v : Waiter) → first ≡ Some v → v.prio < p → p ≤ most_priority → IsAhead h p q
   ahead-first v s lt le =
       λ w i t. own (is_arrival w.role) w.priority
@@ -55,7 +55,7 @@ module _ (h : History) (queue : ℕ → List Waiter)
       own true n k = absurd (omega (arith, k, le))
       own false n k = k
 
-  -- where there is a first, one waits
+  -- if there is a first waiter, a call waits
   pub not-alone : (v : Waiter) → first ≡ Some v → NoneWaits h q → ⊥
   not-alone v s none =
       let r = m.known q v (head-in (queue q) v (sym e ∙ s)) in

@@ -1,4 +1,4 @@
--- QueueClasses: which calls stand at a condition, and which at a barrier.
+-- QueueClasses: the calls that wait at a condition, and those that wait at a barrier.
 use Rattle.std.proofs.Common.{◌≡◌, ℕ, ◌==◌, Bool, true, false, ◌&&◌, Option, Some, None, is_none}
 use Rattle.std.proofs.Common.{option_map, refl, sym, ap, ◌∙◌, arith}
 use Rattle.std.proofs.lemmas.Bool.Decides.{nat_tests}
@@ -26,7 +26,7 @@ use Rattle.pt_model.specs.Steps.{Follows}
 use Rattle.pt_model.proofs.Seats.{exists_as, HousedBy, housed}
 use Rattle.pt_state.specs.Serving.{waits_in}
 
--- an object of one class is none of another
+-- an object of one class is not one of another
 other-object : (h : History) (q o : ℕ) (z s : ObjectClass)
     → option_map class_of (kind_of h q) ≡ Some z
     → same_class z s ≡ false → exists_as h s o ≡ true → (o == q) ≡ false
@@ -65,13 +65,13 @@ module _ (h : History) (q : ℕ) where
   at-barrier-by e ForWrite move o a = other-object h q o BarrierClass RwlockClass e refl a.0
   at-barrier-by e ForBarrier move o a = refl
 
--- at a condition, those that stand there are the waits that aren't moved
+-- the calls that wait at a condition are the waits there that were not moved
 pub at-cond : (h : History) → Follows h → (q : ℕ) → kind_of h q ≡ Some kind.Cond
     → (w : WaitingCall) → In w (open_calls h) → (at_object h w == q) ≡ waits_in h q w
 at-cond h f q e w i =
     at-cond-by h q (ap (option_map class_of) e) w.role (moved h w.place) w.object (housed h f w i)
 
--- at a barrier, they are the arrivals there
+-- the calls that wait at a barrier are the arrivals there
 pub at-barrier : (h : History) → Follows h → (b : ℕ)
     → option_map class_of (kind_of h b) ≡ Some BarrierClass
     → (w : WaitingCall) → In w (open_calls h)
@@ -79,7 +79,7 @@ pub at-barrier : (h : History) → Follows h → (b : ℕ)
 at-barrier h f b e w i =
     at-barrier-by h b e w.role (moved h w.place) w.object (housed h f w i)
 
--- where an object is no barrier, no arrival stands
+-- no arrival waits at an object that is not a barrier
 pub no-arrival : (h : History) → Follows h → (q : ℕ) → exists_as h BarrierClass q ≡ false
     → (w : WaitingCall) → In w (open_calls h) → (at_object h w == q) ≡ true
     → is_arrival w.role ≡ false
@@ -95,7 +95,7 @@ no-arrival h f q other w i = go w.role (moved h w.place) w.object (housed h f w 
     go ForWrite move o a t = refl
     go (ForCond m) move o a t = refl
 
--- a wait at a condition is no arrival
+-- a wait at a condition is not an arrival
 pub wait-plain : (h : History) (q : ℕ) (w : WaitingCall) → waits_in h q w ≡ true
     → is_arrival w.role ≡ false
 wait-plain h q w t = go w.role (is_none (moved h w.place) && (w.object == q)) t

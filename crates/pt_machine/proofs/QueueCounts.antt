@@ -1,4 +1,4 @@
--- QueueCounts: as many stand in a queue as open calls stand at its object.
+-- QueueCounts: a queue has as many waiters as open calls wait at its object.
 use Rattle.std.proofs.Common.{◌≡◌, ℕ, suc, ◌<◌, ◌≤◌, ◌==◌, Bool, true, false, cond, ◌&&◌, ◌||◌}
 use Rattle.std.proofs.Common.{List, [], ◌∷◌, Option, Some, None, option_map, length, filter, refl}
 use Rattle.std.proofs.Common.{sym, ap, ◌∙◌, arith, eq-eqb}
@@ -41,12 +41,12 @@ use Rattle.pt_machine.specs.Queued.{waiter}
 use Rattle.pt_machine.proofs.Membership.{in-list, in-queue}
 use Rattle.pt_machine.proofs.QueueClasses.{at-cond, at-barrier}
 
--- a list is as long as the sum of one for each
+-- the length of a list is the sum of one for each element
 total-ones : {X : Type 0} (xs : List X) → total (λ x. 1) xs ≡ length xs
 total-ones [] = refl
 total-ones (x ∷ xs) = omega (arith, total-ones xs)
 
--- a filter leaves no more
+-- a filter makes no list longer
 filter-less : {X : Type 0} (p : X → Bool) (xs : List X) → length (filter p xs) ≤ length xs
 filter-less p [] = omega arith
 filter-less p (x ∷ xs) = go (p x) (filter-less p xs)
@@ -69,7 +69,7 @@ module _ {X : Type 0} (key : X → ℕ) where
       go true ih = refl
       go false ih = ih
 
-  -- no two that a filter keeps have one number
+  -- no two elements that a filter keeps have the same number
   lone-filter : (p : X → Bool) (xs : List X) → Lone key xs → Lone key (filter p xs)
   lone-filter p [] l = tt
   lone-filter p (x ∷ xs) l = go (p x) (lone-filter p xs l.1)
@@ -86,7 +86,7 @@ module _ {X : Type 0} (key : X → ℕ) where
       go true ih = (none, ih)
       go false ih = ih
 
--- lists in which the same numbers stand, each at most once, are as long
+-- two lists with the same numbers, each at most once, have the same length
 same-length : {X Y : Type 0} (k : X → ℕ) (l : Y → ℕ) (n : ℕ) (xs : List X) (ys : List Y)
     → Lone k xs → Lone l ys → Each (λ x. k x < n) xs → Each (λ y. l y < n) ys
     → ((c : ℕ) → list_any (λ x. k x == c) xs ≡ list_any (λ y. l y == c) ys)
@@ -99,7 +99,7 @@ same-length k l n xs ys a b below under same =
     ∙ (ap (λ t. cond t 1 0) (same c) ∙ sym (worth-one l ys c)))
     ∙ (sym (total-worth l (λ y. 1) n ys b under) ∙ total-ones ys)))
 
--- a client that stands in a list has a waiter there
+-- if a waiter of a list passes a test, at least one passes the filter
 any-length : (p : Waiter → Bool) (vs : List Waiter) → list_any p vs ≡ true
     → 1 ≤ length (filter p vs)
 any-length p [] e = absurd (false≢true e)
@@ -111,7 +111,7 @@ any-length p (v ∷ vs) e = go (p v) e (any-length p vs)
     go true t ih = omega arith
     go false t ih = ih t
 
--- where each client has one waiter at most, no two waiters have one client
+-- if each client has at most one waiter, no two waiters have the same client
 lone-once : (vs : List Waiter) → ((c : ℕ) → length (of_client c vs) ≤ 1)
     → Lone (λ (v : Waiter). v.client) vs
 lone-once [] f = tt
@@ -155,7 +155,7 @@ module _ (h : History) (queue : ℕ → List Waiter)
       let same : v.client ≡ r.0.client = ap (λ (x : Waiter). x.client) r.3 in
       omega (arith, lt, same))
 
-  -- a queue is as long as there are calls at its object
+  -- a queue has as many waiters as calls wait at its object
   counts : (q : ℕ) → length (queue q) ≡ length (filter (λ w. at_object h w == q) (open_calls h))
   counts q =
       same-length (λ (v : Waiter). v.client) (λ (w : WaitingCall). w.client) (place h) (queue q)
@@ -165,7 +165,7 @@ module _ (h : History) (queue : ℕ → List Waiter)
       (λ c. members-any (at_object h) (waiter h) (open_calls h) queue m (λ v. v.client == c) q
       ∙ sym (any-filter (λ w. w.client == c) (λ w. at_object h w == q) (open_calls h)))
 
-  -- those of a barrier's queue are the calls that stand there
+  -- a barrier's queue has as many waiters as there are arrivals at the barrier
   pub counts-barrier : (b n : ℕ) → option_map class_of (kind_of h b) ≡ Some BarrierClass
       → n ≡ length (queue b) → n ≡ length (at_barrier b (open_calls h))
   counts-barrier b n e t =
@@ -176,7 +176,7 @@ module _ (h : History) (queue : ℕ → List Waiter)
       (λ w. (at_object h w == b) ≡ (is_arrival w.role && (w.object == b))) (open_calls h)
       (at-barrier h follows b e))))
 
-  -- those of a condition's queue are the waits there that aren't moved
+  -- a condition's queue has as many waiters as there are waits there that were not moved
   pub counts-cond : (q n : ℕ) → kind_of h q ≡ Some kind.Cond → n ≡ length (queue q)
       → n ≡ length (filter (waits_in h q) (open_calls h))
   counts-cond q n e t =
@@ -196,7 +196,7 @@ living-step h _ le (trips w s i t) = le
 living-step h _ le (yields m s t) = le
 living-step h _ le (expires w s i t) = le
 
--- no more live than may
+-- no more clients live than the limit
 pub living-most : (h : History) → Follows h → living h ≤ most_clients
 living-most h f =
     by_steps (λ h. living h ≤ most_clients) (omega arith) (λ h e f le s. living-step h e le s)

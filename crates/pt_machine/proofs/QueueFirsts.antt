@@ -31,7 +31,7 @@ use Rattle.pt_state.proofs.ServingOrders.{precedes-one}
 use Rattle.pt_machine.specs.Queued.{waiter}
 use Rattle.pt_machine.proofs.Membership.{in-list, in-queue}
 
--- by what a call goes before another is the same of its waiter, but at a barrier
+-- the key of a call is that of its waiter, except at a barrier
 key-waiter : (h : History) (w : WaitingCall) → is_arrival w.role ≡ false
     → key_of (waiter h w) ≡ key h w
 key-waiter h w other =
@@ -42,7 +42,7 @@ key-waiter h w other =
     arrives None j = refl
     arrives (Some v) j = refl
 
--- one waits before another where its call precedes the other's
+-- a waiter comes before another exactly if its call precedes the other's
 pub before-waiter : (h : History) (v w : WaitingCall) → is_arrival v.role ≡ false
     → is_arrival w.role ≡ false → comes_before (waiter h v) (waiter h w) ≡ precedes h v w
 before-waiter h v w one other =
@@ -74,7 +74,7 @@ module _ (h : History) (queue : ℕ → List Waiter)
     (m : Members (at_object h) (waiter h) (open_calls h) queue) (follows : Follows h) (q : ℕ)
     (here : WaitingCall → Bool)
     (agrees : (w : WaitingCall) → In w (open_calls h) → (at_object h w == q) ≡ here w) where
-  -- a call that waits there stands in its queue
+  -- the waiter of a call that waits there is in the queue
   pub stands : (w : WaitingCall) → In w (open_calls h) → here w ≡ true
       → InQueue (waiter h w) (queue q)
   stands w i t =
@@ -82,7 +82,7 @@ module _ (h : History) (queue : ℕ → List Waiter)
       let at : at_object h w ≡ q = grind (arith, nat_tests) in
       subst (λ o. InQueue (waiter h w) (queue o)) at (m.held w (in-queue w (open_calls h) i))
 
-  -- none of the calls there has arrived at a barrier
+  -- none of the calls there is an arrival
   abbrev ArePlain : Type 0
   ArePlain = (w : WaitingCall) → In w (open_calls h) → here w ≡ true → is_arrival w.role ≡ false
 
@@ -116,7 +116,7 @@ module _ (h : History) (queue : ℕ → List Waiter)
       ∙ call_of-open h follows r.0 r.1.0 in
       ap (option_map called) t ∙ (a.look.calls v.client ∙ (own ∙ sym r.1.2))
 
-  -- where the queue is empty, no call waits there
+  -- if the queue is empty, no call waits there
   pub none-called : (first : Option Waiter) → first ≡ head_of (queue q) → first ≡ None
       → None ≡ least (precedes h) (filter here (open_calls h))
   none-called first e s =

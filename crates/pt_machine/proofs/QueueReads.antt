@@ -1,4 +1,4 @@
--- QueueReads: what is asked of a queue is what the definitions say of the calls that stand there.
+-- QueueReads: the answers of a queue are what the definitions say of the calls that wait there.
 use Rattle.std.proofs.Common.{◌≡◌, ℕ, ◌==◌, nat_le, Bool, true, false, cond, ◌&&◌, ◌||◌, List, []}
 use Rattle.std.proofs.Common.{◌∷◌, Option, Some, None, is_some, unwrap_or, filter, refl, sym, ap}
 use Rattle.std.proofs.Common.{◌∙◌, arith}
@@ -28,7 +28,7 @@ any-agree : {X : Type 0} (p q : X → Bool) → ((x : X) → p x ≡ q x) → (x
 any-agree p q f [] = refl
 any-agree p q f (x ∷ xs) = rw (f x, any-agree p q f xs) refl
 
--- whether a call holds a reader back is the same of its waiter: an arrival holds none back
+-- a call holds a reader back exactly if its waiter does: an arrival holds none back
 holds-waiter : (h : History) (p : ℕ) (w : WaitingCall)
     → writes_before p (waiter h w) ≡ holds_back w p
 holds-waiter h p w = go w.role w.priority
@@ -41,7 +41,7 @@ holds-waiter h p w = go w.role w.priority
     go ForBarrier n = refl
     go (ForCond m) n = refl
 
--- there is a first one that passes where any passes
+-- there is a first waiter that passes if any passes
 filter-some : (p : Waiter → Bool) (vs : List Waiter) → is_some (head_of (filter p vs))
     ≡ list_any p vs
 filter-some p [] = refl
@@ -52,7 +52,7 @@ filter-some p (v ∷ vs) = go (p v) (filter-some p vs)
     go true ih = refl
     go false ih = ih
 
--- there is a first one where there is any
+-- there is a first waiter if there is any
 head-some : (vs : List Waiter) → is_some (head_of vs) ≡ list_any (λ v. true) vs
 head-some [] = refl
 head-some (v ∷ vs) = refl
@@ -63,7 +63,7 @@ and_true false = refl
 
 module _ (h : History) (queue : ℕ → List Waiter)
     (m : Members (at_object h) (waiter h) (open_calls h) queue) where
-  -- whether a call stands at an object
+  -- whether a call waits at an object
   any-stands : (o : ℕ) → is_some (head_of (queue o)) ≡ is_awaited h o
   any-stands o =
       head-some (queue o)
@@ -71,7 +71,7 @@ module _ (h : History) (queue : ℕ → List Waiter)
       ∙ any-agree (λ w. (at_object h w == o) && true) (λ w. at_object h w == o)
       (λ w. and_true (at_object h w == o)) (open_calls h))
 
-  -- whether a writer of this priority or a higher one stands at a lock
+  -- whether a writer of this priority or a higher one waits at a lock
   any-before : (r p : ℕ) → list_any (writes_before p) (queue r) ≡ is_blocked h r p
   any-before r p =
       members-any (at_object h) (waiter h) (open_calls h) queue m (writes_before p) r
@@ -80,7 +80,7 @@ module _ (h : History) (queue : ℕ → List Waiter)
       (λ w. ap (λ b. (at_object h w == r) && b) (holds-waiter h p w)) (open_calls h)
       ∙ sym (any-filter (λ v. holds_back v p) (λ w. at_object h w == r) (open_calls h)))
 
-  -- whether any writer stands there
+  -- whether any writer waits there
   any-writer : (r : ℕ) → is_some (first_writer_of (queue r)) ≡ is_blocked h r 0
   any-writer r =
       filter-some (λ v. v.writer) (queue r)
@@ -90,12 +90,12 @@ module _ (h : History) (queue : ℕ → List Waiter)
       lowest : (b : Bool) (p : ℕ) → b ≡ (b && nat_le 0 p)
       lowest b p = let le : nat_le 0 p ≡ true = grind (arith, nat_tests) in rw le (sym (and_true b))
 
-  -- the first of a queue tells whether a call stands at its object
+  -- the first of a queue shows whether a call waits at its object
   pub awaited : (o : ℕ) (first : Option Waiter) (b : Bool) → first ≡ head_of (queue o)
       → b ≡ is_some first → b ≡ is_awaited h o
   awaited o first b e t = t ∙ (ap is_some e ∙ any-stands o)
 
-  -- the queue tells whether a writer blocks a client of this priority
+  -- the queue shows whether a writer blocks a client of this priority
   pub blocked-living : (r c p : ℕ) (b : Bool) → client h c ≡ Some p
       → b ≡ list_any (writes_before p) (queue r) → b ≡ is_blocked h r (unwrap_or (client h c) 0)
   blocked-living r c p b e t =

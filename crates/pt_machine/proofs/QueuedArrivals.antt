@@ -62,7 +62,7 @@ joined_lives : (b : Bool) (p : ℕ) (o : Option ℕ) → (b || is_some o) ≡ is
 joined_lives true p o = refl
 joined_lives false p o = refl
 
--- a client that joins has room for its call, and none yet
+-- a client that joins has room for its call, and no call yet
 pub queued-join : (h : History) (n p : ℕ) (queue queue' : ℕ → List Waiter)
     (admitted admitted' made made' : ℕ → Bool) → Follows h → n ≡ place h
     → ((q : ℕ) → queue' q ≡ queue q)
@@ -87,7 +87,7 @@ pub no-room-yet : (h : History) (n : ℕ) (queue : ℕ → List Waiter) (admitte
 no-room-yet h n queue admitted made f here k =
     k.admits n ∙ ap is_some ((Fresh-follows h f).clients n (omega (arith, here)))
 
--- for whom there is no room, that one stands nowhere
+-- a client for which there is no room is in no queue
 pub no-room-nowhere : (c : ℕ) (queue queue' : ℕ → List Waiter) (admitted : ℕ → Bool)
     → ((q : ℕ) → stands_in c (queue q) ≡ true → admitted c ≡ true) → admitted c ≡ false
     → ((q : ℕ) → queue' q ≡ queue q) → (q : ℕ) → stands_in c (queue' q) ≡ false
@@ -98,7 +98,7 @@ no-room-nowhere c queue queue' admitted law none same q =
     go true e = absurd (false≢true (sym none ∙ law q e))
     go false e = refl
 
--- room that was made and given back
+-- making room and giving it back changes nothing
 pub room-back : (c : ℕ) (before between after : ℕ → Bool) → before c ≡ false
     → ((d : ℕ) → between d ≡ ((c == d) || before d))
     → ((d : ℕ) → after d ≡ (not (c == d) && between d)) → (d : ℕ) → after d ≡ before d
@@ -115,7 +115,7 @@ died_lives : (b : Bool) (o : Option ℕ) → (not b && is_some o) ≡ is_some (c
 died_lives true o = refl
 died_lives false o = refl
 
--- a client that dies takes its call along, and the room for one
+-- the death of a client removes its call from the queues, and its room
 pub queued-death : (h : History) (c : ℕ) (queue queue' : ℕ → List Waiter)
     (admitted admitted' made made' : ℕ → Bool)
     → ((q : ℕ) → queue' q ≡ without c (queue q))

@@ -31,20 +31,20 @@ use Rattle.pt_machine.proofs.ArrivalBounds.{arrival-below, object-there}
 use Rattle.pt_machine.proofs.Broadcasts.{Broadcast, was, came, rouses, away, spares, goes}
 use Rattle.pt_machine.proofs.PlaceTakes.{Takes}
 
--- the move of a call, where those that stand in this queue have not been moved yet
+-- the move of a call so far: those in this queue have not been moved yet
 abbrev pub move_now : History → History → List Waiter → WaitingCall → Option Move
 move_now h g ws w = cond (stands_in w.client ws) (moved h w.place) (moved g w.place)
 
--- and where the call stands so
+-- the object at which the call waits so far
 abbrev pub object_now : History → History → List Waiter → WaitingCall → ℕ
 object_now h g ws w = object_by w.role (move_now h g ws w) w.object
 
--- and how it waits
+-- the waiter of the call so far
 abbrev pub waiter_now : History → History → List Waiter → WaitingCall → Waiter
 waiter_now h g ws w = waiter_by (move_now h g ws w) w
 
--- between h and g the waits at q are taken to their mutexes: none that still stands at q goes
--- before one that was taken away
+-- between h and g the waits at q are moved to their mutexes; none that is still at q goes before
+-- one that was moved
 pub record IsRousing (h g : History) (q : ℕ) (queue : ℕ → List Waiter) (admitted made : ℕ → Bool)
     : Type 0 where
   pub by : Broadcast h g q
@@ -59,7 +59,7 @@ Each-from : (P : Waiter → Type 0) (ws : List Waiter) → ((v : Waiter) → In 
 Each-from P [] f = tt
 Each-from P (v ∷ vs) f = (f v (inl refl), Each-from P vs (λ u i. f u (inr i)))
 
--- who is in a queue stands there
+-- a queue has the client of each of its waiters
 stands : (ws : List Waiter) (v : Waiter) → In v ws → stands_in v.client ws ≡ true
 stands ws v i = any-in (λ (u : Waiter). u.client == v.client) ws v i (eq-eqb v.client v.client refl)
 
@@ -76,14 +76,15 @@ without-shorter (u ∷ us) v e =
     let less : length (without v.client us) < suc (length us) = omega (arith, both) in
     rw its less
 
--- of two that were moved by one entry, of the same priority, the one that came later is after
+-- of two waiters of the same priority that one entry moved, the one that came later goes after the
+-- other
 later-behind : (pu px ru rx mu mx iu ix nu nx : ℕ) → mu ≡ iu → mx ≡ ix → nu ≡ nx
     → (nat_lt px pu || ((pu == px) && (nat_lt ru rx || ((ru == rx)
     && (nat_lt mu mx || ((mu == mx) && nat_lt iu ix)))))) ≡ false
     → (((px == pu) && (rx == ru)) && (nat_lt nu nx || ((nu == nx) && nat_lt iu ix))) ≡ false
 later-behind pu px ru rx mu mx iu ix nu nx a b c t = grind (arith, nat_tests)
 
--- what was moved before is no later
+-- a waiter that was moved later does not go before one that was moved earlier
 earlier : (like : Bool) (nu nx iu ix : ℕ) → nx < nu
     → (like && (nat_lt nu nx || ((nu == nx) && nat_lt iu ix))) ≡ false
 earlier true nu nx iu ix lt = grind (arith, nat_tests)
@@ -93,7 +94,7 @@ nothing : (ws : List Waiter) → head_of ws ≡ None → ws ≡ []
 nothing [] e = refl
 nothing (v ∷ vs) e = absurd cc
 
--- the queues as the broadcast comes
+-- the queues when the broadcast comes
 pub rousing-begins : {h g : History} {q : ℕ} {queue : ℕ → List Waiter} {admitted made : ℕ → Bool}
     → Broadcast h g q
     → IsQueued h (queues_of queue admitted made) → IsRousing h g q queue admitted made
@@ -130,7 +131,7 @@ rousing-begins {h = h} {g = g} {q = q} {queue = queue} b k =
             let at : at_object h w ≡ q = grind (arith, nat_tests) in
             false≢true (sym e ∙ there w i at)))
 
--- the call whose waiter stands at the condition first
+-- the call whose waiter is the first at the condition
 record IsNext (h g : History) (ws : List Waiter) (q : ℕ) (first : Waiter) : Type 0 where
   pub call : WaitingCall
   pub «open» : In call (open_calls g)
@@ -141,7 +142,7 @@ record IsNext (h g : History) (ws : List Waiter) (q : ℕ) (first : Waiter) : Ty
 
 module _ {h g : History} {q : ℕ} {queue : ℕ → List Waiter} {admitted made : ℕ → Bool}
     (k : IsRousing h g q queue admitted made) where
-  -- the queues once none stands at the condition
+  -- the queues after all waits have left the condition
   pub rousing-ends : {found : Option Waiter} → found ≡ head_of (queue q) → found ≡ None
       → IsQueued g (queues_of queue admitted made)
   rousing-ends e n =
@@ -153,7 +154,7 @@ module _ {h g : History} {q : ℕ} {queue : ℕ → List Waiter} {admitted made 
         makes = k.makes;
       }
 
-  -- who stands at the condition still stood there before
+  -- a call that is still at the condition was there before
   stood-here : (w : WaitingCall) → In w (open_calls g) → stands_in w.client (queue q) ≡ true
       → at_object h w ≡ q
   stood-here w i s =
@@ -176,7 +177,7 @@ module _ {h g : History} {q : ℕ} {queue : ℕ → List Waiter} {admitted made 
       (queue (object_by w.role (cond t (moved h w.place) (moved g w.place)) w.object)))
       s (k.members.held w i))
 
-  -- who stands elsewhere stands there for good
+  -- a call that waits elsewhere is no longer in the condition's queue
   gone : (w : WaitingCall) → In w (open_calls g) → (o : ℕ) → (o == q) ≡ false
       → object_now h g (queue q) w ≡ o → stands_in w.client (queue q) ≡ false
   gone w i o n e =
@@ -207,7 +208,7 @@ module _ {h g : History} {q : ℕ} {queue : ℕ → List Waiter} {admitted made 
               ∙ ap (λ t. waiter_by (cond t (moved h r.0.place) (moved g r.0.place)) r.0) here;
         }
 
-    -- the first of them as it was moved waits at the mutex that was bound to the condition
+    -- the first of them, after its move, waits at the mutex that was bound to the condition
     pub rousing-takes : {m : ℕ} {v : Waiter} → m ≡ unwrap_or (bound_by (waiting_at h q)) 0
         → v ≡ record first { moved = place h } → Takes g first.client m v
     rousing-takes {m = m} {v = v} m_is v_is =
@@ -225,7 +226,7 @@ module _ {h g : History} {q : ℕ} {queue : ℕ → List Waiter} {admitted made 
         its : (w : WaitingCall) → In w (open_calls g) → w.client ≡ first.client → next.call ≡ w
         its w i e = sym (one_each g k.by.after w next.call i next.open (e ∙ next.its))
 
-    -- what stands at its mutex was there before, or was moved there ahead of it
+    -- each waiter at its mutex was there before, or was moved there ahead of it
     behind : (v : Waiter) → In v (queue (at_object g next.call))
         → (is_like v (waiter g next.call)
         && pair_before (arrival (waiter g next.call)) (arrival v)) ≡ false
@@ -297,7 +298,7 @@ module _ {h g : History} {q : ℕ} {queue : ℕ → List Waiter} {admitted made 
           (put : (w : WaitingCall) → In w (open_calls g) → w.client ≡ first.client → (r : ℕ)
           → queue2 r ≡ cond (at_object g w == r) (insert_in_order (waiter g w) (queue1 r))
           (queue1 r)) where
-        -- the condition's queue has lost the first
+        -- the condition's queue is without the first
         rest-here : queue2 q ≡ without first.client (queue q)
         rest-here =
             put next.call next.open (sym next.its) q
@@ -327,7 +328,7 @@ module _ {h g : History} {q : ℕ} {queue : ℕ → List Waiter} {admitted made 
             let own : w.client ≡ next.call.client = grind (arith, nat_tests, next.its) in
             one_each g k.by.after w next.call i next.open own
 
-        -- all others stand as they did
+        -- all other calls wait as they did
         others : (w : WaitingCall) → (first.client == w.client) ≡ false
             → move_now h g (queue2 q) w ≡ move_now h g (queue q) w
         others w e =
@@ -383,7 +384,7 @@ module _ {h g : History} {q : ℕ} {queue : ℕ → List Waiter} {admitted made 
                 (sym (stands-now w ∙ ap (λ r. not r && stands_in w.client (queue q)) s) ∙ n)
                 still
 
-        -- and so on with the next
+        -- the queues are ready for the next of them
         pub rousing-next : {admitted1 made1 admitted2 made2 : ℕ → Bool}
             → ((c : ℕ) → admitted1 c ≡ admitted c) → ((o : ℕ) → made1 o ≡ made o)
             → ((c : ℕ) → admitted2 c ≡ admitted1 c) → ((o : ℕ) → made2 o ≡ made1 o)

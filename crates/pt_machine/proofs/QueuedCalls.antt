@@ -175,7 +175,7 @@ module _ (h : History) (c : ℕ) (call : Asked) (f : Follows h)
       one_more true before = refl
       one_more false before = refl
 
-  -- a destroy that succeeds ends an object at which no call stands
+  -- a destroy that succeeds ends an object at which no call waits
   pub end-unawaited : (n : List ℕ) (class : ObjectClass) → operation call ≡ Ends n class → (o : ℕ)
       → find h n class ≡ Some o → is_awaited h o ≡ false
   end-unawaited n class e o found =
@@ -205,7 +205,7 @@ module _ (h : History) (c : ℕ) (call : Asked) (f : Follows h)
 
 module _ (h : History) (queue : ℕ → List Waiter) (admitted made : ℕ → Bool) (f : Follows h)
     (k : IsQueued h (queues_of queue admitted made)) where
-  -- no queue has the number of a place that isn't there yet
+  -- no queue has the number of the next place yet
   pub unmade-next : made (place h) ≡ false
   unmade-next =
       k.makes (place h)
@@ -220,7 +220,7 @@ module _ (h : History) (queue : ℕ → List Waiter) (admitted made : ℕ → Bo
       there None t = absurd cc
       there (Some kind) t = refl
 
-  -- where no call stands the queue is empty
+  -- the queue of an object at which no call waits is empty
   pub unawaited-empty : (o : ℕ) → is_awaited h o ≡ false → queue o ≡ []
   unawaited-empty o e = go (queue o) refl
     where
@@ -233,7 +233,7 @@ module _ (h : History) (queue : ℕ → List Waiter) (admitted made : ℕ → Bo
           absurd (false≢true (sym e ∙ any-in (λ (w : WaitingCall). at_object h w == o)
           (open_calls h) r.0 r.1 (eq-eqb (at_object h r.0) o r.2)))
 
--- a queue that isn't made is empty
+-- a queue that was not made is empty
 pub unmade-empty : (queue : ℕ → List Waiter) (made : ℕ → Bool)
     → ((c q : ℕ) → stands_in c (queue q) ≡ true → made q ≡ true)
     → (o : ℕ) → made o ≡ false → queue o ≡ []
@@ -247,7 +247,7 @@ unmade-empty queue made law o e = go (queue o) refl
         ∙ ap (λ b. b || stands_in v.client vs) (eq-eqb v.client v.client refl) in
         absurd (false≢true (sym e ∙ law v.client o here))
 
--- a queue that was made and taken away again
+-- making a queue and removing it again changes nothing
 pub made-back : (o : ℕ) (made made' made'' : ℕ → Bool) → made o ≡ false
     → ((q : ℕ) → made' q ≡ ((o == q) || made q))
     → ((q : ℕ) → made'' q ≡ (not (o == q) && made' q)) → (q : ℕ) → made'' q ≡ made q

@@ -1,4 +1,4 @@
--- The queues of a state after an entry that must follow.
+-- The queues of a state after a forced entry.
 use Rattle.std.proofs.Common.{◌≡◌, ℕ, Bool, true, false, cond, ◌==◌, List, [], ap, subst}
 use Rattle.pt_waitq.specs.declared.waiter.Waiter.{Waiter}
 use Rattle.pt_waitq.specs.Queues.{queues_of, without}
@@ -52,7 +52,7 @@ module _ {A : Type 0} (old new : State A) (o : Open) (queue queue' : ℕ → Lis
       (queued-trip (past old) (called o) queue queue' admitted admitted' made made' read.follows
       open_call arrival gone room there k)
 
-  -- a call that is no wait expired
+  -- a call that is not a wait expired
   pub queued-late : Adds old (Expire o.call.place) new → is_wait (called o).role ≡ false
       → ((q : ℕ) → queue' q ≡ without o.call.client (queue q))
       → IsQueued (past new) (queues_of queue' admitted' made')

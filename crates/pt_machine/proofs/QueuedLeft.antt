@@ -46,7 +46,7 @@ use Rattle.pt_machine.specs.Queued.{arriving, standing, waiter, IsQueued, CanSta
 use Rattle.pt_machine.proofs.ArrivalBounds.{waiters-below, arrival-new, object-there}
 use Rattle.pt_machine.proofs.PlaceTakes.{Takes}
 
--- an effect leaves one call waiting at most
+-- an effect leaves at most one call waiting
 alone : (E : Effect) (w : WaitingCall) → In w (left_by E) → left_by E ≡ w ∷ []
 alone (Waits u) w (inl i) = ap (λ (v : WaitingCall). v ∷ []) (sym i)
 alone (Waits u) w (inr i) = absurd i
@@ -71,7 +71,7 @@ own-priority MutexLock p = refl
 own-priority ReadLock p = refl
 own-priority WriteLock p = refl
 
--- a call that has just come, and is the only one that the entry leaves
+-- a call that has just come, and is the only one that the entry leaves waiting
 record Came (h : History) (c : ℕ) (call : Asked) : Type 0 where
   waiting : WaitingCall
   stood : In waiting (stood_by_operation h c (clock_of call) (operation call))
@@ -100,7 +100,7 @@ module _ (h : History) (f : Follows h) (c : ℕ) (call : Asked) (s : Step h (Cal
     (queue : ℕ → List Waiter) (admitted made : ℕ → Bool)
     (k : IsQueued h (queues_of queue admitted made))
   where
-    -- after the call
+    -- the history after the call
     abbrev after : History
     after = h ▷ Call c call None
 
@@ -156,7 +156,7 @@ module _ (h : History) (f : Follows h) (c : ℕ) (call : Asked) (s : Step h (Cal
     can-stand-left g e =
         subst (λ (x : History). CanStand x c (queues_of queue admitted made)) (sym e) can-stand
 
-    -- the queue of each object is as before, but for the one where the call stands
+    -- the queue of each object is unchanged, except the one where the call waits
     abbrev Puts : History → (ℕ → List Waiter) → Type 0
     Puts g queue' =
         (w : WaitingCall) → In w (open_calls g) → w.client ≡ c → (q : ℕ)
@@ -191,7 +191,7 @@ module _ (h : History) (f : Follows h) (c : ℕ) (call : Asked) (s : Step h (Cal
             subst (λ (ws : List WaitingCall). In w ws) (sym new.opens)
             (In-append_left w (open_calls h) (new.waiting ∷ []) i)
 
-    -- and once it has, the queues are those of the open calls
+    -- after it has taken its place, the queues are those of the open calls
     pub queued-left : (g : History) → g ≡ h ▷ Call c call None
         → (queue' : ℕ → List Waiter) (admitted' made' : ℕ → Bool) → Puts g queue'
         → ((d : ℕ) → admitted' d ≡ admitted d) → ((o : ℕ) → made' o ≡ made o)
@@ -213,7 +213,7 @@ module _ (h : History) (f : Follows h) (c : ℕ) (call : Asked) (s : Step h (Cal
         pick (inr (inl e)) = e
         pick (inr (inr e)) = absurd e
 
-    -- an arrival waits at its barrier as its client and its place say
+    -- an arrival takes its place at its barrier, and its waiter has its client and its place
     pub arrival-takes : (n : List ℕ) → operation call ≡ Arrives n → (g : History)
         → g ≡ h ▷ Call c call None → (b j : ℕ) (v : Waiter) → b ≡ meant h n BarrierClass
         → j ≡ place h → v ≡ arriving c j → Takes g c b v
@@ -241,7 +241,8 @@ module _ (h : History) (f : Follows h) (c : ℕ) (call : Asked) (s : Step h (Cal
             ∙ one (subst (λ d. In new.waiting (stood_by_operation h c (clock_of call) d)) arrives
             new.stood)
 
-    -- a wait stands at its condition as its client, its place and its client's priority say
+    -- a wait takes its place at its condition, and its waiter has its client, its place and its
+    -- client's priority
     pub wait-takes : (n m : List ℕ) (d : Option Timespec) → operation call ≡ Awaits n m d
         → (g : History) → g ≡ h ▷ Call c call None → (q j p : ℕ) (v : Waiter)
         → q ≡ meant h n CondClass → j ≡ place h → client h c ≡ Some p
@@ -280,7 +281,8 @@ module _ (h : History) (f : Follows h) (c : ℕ) (call : Asked) (s : Step h (Cal
             ∙ one (subst (λ x. In new.waiting (stood_by_operation h c (clock_of call) x)) awaits
             new.stood)
 
-    -- a call for a lock waits there as its client, its place and its client's priority say
+    -- a call for a lock takes its place there, and its waiter has its client, its place and its
+    -- client's priority
     pub lock-takes : (n : List ℕ) (k : LockKind) (how : How) → operation call ≡ Acquires n k how
         → (g : History) → g ≡ h ▷ Call c call None → (o j p : ℕ) (v : Waiter)
         → o ≡ meant h n (class_needed k) → j ≡ place h → client h c ≡ Some p

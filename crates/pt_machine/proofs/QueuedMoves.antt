@@ -25,7 +25,7 @@ use Rattle.pt_model.proofs.OneEach.{one_each}
 use Rattle.pt_machine.specs.Queued.{waiter_by, waiter, IsQueued, CanStand}
 use Rattle.pt_machine.proofs.ArrivalBounds.{waiters-below, object-there}
 
--- an entry moves this open call, and changes nothing else that queues are read off
+-- an entry moves this open call, and changes nothing else on which the queues depend
 pub record MovesOne (h : History) (e : Entry) (u : WaitingCall) : Type 0 where
   pub known : In u (open_calls h)
   pub cause : Cause
@@ -41,14 +41,14 @@ module _ (h : History) (e : Entry) (u : WaitingCall) (f : Follows (h ▷ e)) (m 
     (left : (q : ℕ) → queue' q ≡ without u.client (queue q))
     (room : (c : ℕ) → admitted' c ≡ admitted c) (there : (o : ℕ) → made' o ≡ made o)
     (k : IsQueued h (queues_of queue admitted made)) where
-  -- who is left in a queue came there before
+  -- each waiter that is left in a queue came there before
   left_before : (q : ℕ) → Each (λ v. v.moved < place h) (queue' q)
   left_before q =
       subst (λ (vs : List Waiter). Each (λ v. v.moved < place h) vs) (sym (left q))
       (without-each (λ (v : Waiter). v.moved < place h) u.client (queue q)
       (waiters-below h queue f.0 k.members q))
 
-  -- the call that is moved may take its place, once it has left its queue
+  -- the call that is moved may take its place after it has left its queue
   pub can-stand-moved : CanStand (h ▷ e) u.client (queues_of queue' admitted' made')
   can-stand-moved =
       record {
@@ -72,7 +72,7 @@ module _ (h : History) (e : Entry) (u : WaitingCall) (f : Follows (h ▷ e)) (m 
       new : (waiter (h ▷ e) u).moved ≡ place h
       new = ap (λ (x : Option Move). (arrival_by x u.place).0) m.here
 
-  -- another client's call is moved as before
+  -- the move of another client's call is unchanged
   other : (w : WaitingCall) → In w (open_calls h) → (w.client == u.client) ≡ false
       → moved (h ▷ e) w.place ≡ moved h w.place
   other w i ne = go (w.place == u.place) refl
@@ -86,13 +86,13 @@ module _ (h : History) (e : Entry) (u : WaitingCall) (f : Follows (h ▷ e)) (m 
           let same : (w.client == u.client) ≡ true = grind (arith, nat_tests) in
           absurd (false≢true (sym ne ∙ same))
 
-  -- and no other call is its client's
+  -- and its client has no other call
   one_client : (w : WaitingCall) → In w (open_calls h) → (w.client == u.client) ≡ true → w ≡ u
   one_client w i t =
       let own : w.client ≡ u.client = grind (arith, nat_tests) in
       one_each h f.0 w u i m.known own
 
-  -- once it has taken it, the queues are those of the history with the entry
+  -- after it has taken its place, the queues are those of the history with the entry
   pub queued-moved : (queue'' : ℕ → List Waiter) (admitted'' made'' : ℕ → Bool)
       → ((q : ℕ) → queue'' q
       ≡ cond (at_object (h ▷ e) u == q) (insert_in_order (waiter (h ▷ e) u) (queue' q))

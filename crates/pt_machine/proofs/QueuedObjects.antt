@@ -1,4 +1,4 @@
--- Pushes that make an object or end one: what the queues are before them and after them.
+-- Pushes that make or end an object: the queues before and after them.
 use Rattle.std.proofs.Common.{◌≡◌, ℕ, ◌+◌, ◌==◌, Bool, true, false, not, ◌&&◌, ◌||◌, List, []}
 use Rattle.std.proofs.Common.{length, Some, sym, ap, ◌∙◌}
 use Rattle.pt_types.specs.declared.call.Call.{Call as Asked}
@@ -21,13 +21,13 @@ use Rattle.pt_history.proofs.Places.{place_of_next}
 module _ {A : Type 0} (s : State A) (c : ℕ) (call : Asked)
     (g : IsReadyFor s (Call c call (Some Done))) (queue : ℕ → List Waiter)
     (admitted made : ℕ → Bool) (k : IsQueued (past s) (queues_of queue admitted made)) where
-  -- the number of a new object has no queue
+  -- no queue has the number of a new object yet
   pub make-unmade : (o : ℕ) → o ≡ s.stored.start.at + length s.stored.entries → made o ≡ false
   make-unmade o e =
       ap made (e ∙ sym (place_of_next s.stored))
       ∙ unmade-next (past s) queue admitted made g.read.follows k
 
-  -- so none stands in it, where it is made
+  -- so the queue is empty when it is made
   pub make-empty : (queue' : ℕ → List Waiter)
       → ((d q : ℕ) → stands_in d (queue q) ≡ true → made q ≡ true) → (o : ℕ)
       → o ≡ s.stored.start.at + length s.stored.entries
@@ -48,7 +48,7 @@ module _ {A : Type 0} (s : State A) (c : ℕ) (call : Asked)
       made made' queues rooms
       (λ q. there q ∙ ap (λ p. (p == q) || made q) (e ∙ sym (place_of_next s.stored))) k)
 
-  -- it was not, and the queue that was made for it is taken away again
+  -- the object was not made, and the queue that was made for it is removed again
   pub make-undone : (new : State A) (queue' : ℕ → List Waiter) (admitted' made' made'' : ℕ → Bool)
       (o : ℕ) → o ≡ s.stored.start.at + length s.stored.entries
       → ((q : ℕ) → queue' q ≡ queue q) → ((d : ℕ) → admitted' d ≡ admitted d)
@@ -65,7 +65,7 @@ module _ {A : Type 0} (s : State A) (c : ℕ) (call : Asked)
     pub end-made : made o ≡ true
     end-made = made-found (past s) queue admitted made g.read.follows k n class o found
 
-    -- in which none stands
+    -- which is empty
     pub end-empty : operation call ≡ Ends n class → queue o ≡ []
     end-empty d =
         unawaited-empty (past s) queue admitted made g.read.follows k o

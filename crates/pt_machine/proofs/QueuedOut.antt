@@ -1,4 +1,4 @@
--- The queues after an entry that lets open calls go.
+-- The queues after an entry by which open calls end.
 use Rattle.std.proofs.Common.{◌≡◌, ℕ, Bool, true, false, cond, not, ◌&&◌, ◌||◌, ◌==◌, List, []}
 use Rattle.std.proofs.Common.{Option, None, Some, refl, sym, ap, ◌∙◌, subst, arith, filter}
 use Rattle.std.proofs.lemmas.Bool.Decides.{nat_tests}
@@ -34,8 +34,8 @@ use Rattle.pt_model.proofs.Seats.{exists_as, seat, HousedBy, housed, one_class}
 use Rattle.pt_machine.specs.Queued.{waiter, IsQueued}
 use Rattle.pt_machine.proofs.QueuedSame.{stands-same}
 
--- one history after another, where no open call is moved, and the same clients live and the same
--- objects exist: the queues are right once they have its open calls
+-- after a change that moves no open call and leaves the same clients and objects, the queues are
+-- right once they have the open calls that are left
 pub queued-still : (h g : History) (queue queue' : ℕ → List Waiter)
     (admitted admitted' made made' : ℕ → Bool) → ((j : ℕ) → moved g j ≡ moved h j)
     → ((c : ℕ) → is_alive g c ≡ is_alive h c) → ((o : ℕ) → kind_of g o ≡ kind_of h o)
@@ -51,7 +51,7 @@ queued-still h g queue queue' admitted admitted' made made' moves alive kinds ro
       makes = λ o. there o ∙ (k.makes o ∙ ap is_some (sym (kinds o)));
     }
 
--- of the open calls, those of one call's client are those at its place
+-- an open call has the place of another exactly if it has its client
 same_test : (h : History) → Follows h → (u : WaitingCall) → In u (open_calls h) → (w : WaitingCall)
     → In w (open_calls h) → (w.place == u.place) ≡ (w.client == u.client)
 same_test h f u i w j = go (w.place == u.place) (w.client == u.client) refl refl
@@ -70,7 +70,7 @@ same_test h f u i w j = go (w.place == u.place) (w.client == u.client) refl refl
         ap (λ (v : WaitingCall). v.place) (one_each h f w u j i by) in
         grind (arith, nat_tests)
 
--- an entry that lets one open call go and moves none
+-- an entry that ends one open call and moves none
 pub queued-out : (h : History) (e : Entry) (u : WaitingCall) (queue queue' : ℕ → List Waiter)
     (admitted admitted' made made' : ℕ → Bool) → Follows h → In u (open_calls h)
     → open_calls (h ▷ e) ≡ filter (λ w. not (w.place == u.place)) (open_calls h)
@@ -91,7 +91,7 @@ queued-out h e u queue queue' admitted admitted' made made' f i calls moves aliv
     (open_calls h) (λ w j. ap not (same_test h f u i w j)))))
     (members-out (at_object h) (waiter h) (open_calls h) u.client queue queue' gone k.members))
 
--- a call that is granted goes
+-- a Grant ends its call
 pub queued-grant : (h : History) (x : Outcome) (u : WaitingCall) (queue queue' : ℕ → List Waiter)
     (admitted admitted' made made' : ℕ → Bool) → Follows h → In u (open_calls h)
     → ((q : ℕ) → queue' q ≡ without u.client (queue q))
@@ -102,7 +102,7 @@ queued-grant h x u queue queue' admitted admitted' made made' f i gone room ther
     queued-out h (Grant u.place x) u queue queue' admitted admitted' made made' f i
     (open-grant h u.place x) (λ j. refl) (λ c. refl) (λ o. refl) gone room there k
 
--- a call that is no wait goes as its deadline passes
+-- an Expire of a call that is not a wait ends it
 pub queued-expire : (h : History) (u : WaitingCall) (queue queue' : ℕ → List Waiter)
     (admitted admitted' made made' : ℕ → Bool) → Follows h → In u (open_calls h)
     → is_wait u.role ≡ false
@@ -123,7 +123,7 @@ queued-expire h u queue queue' admitted admitted' made made' f i other gone room
     unmoved true o = refl
     unmoved false o = refl
 
--- all calls at one object go
+-- all calls at one object end
 members-clear : {X : Type 0} (at : X → ℕ) (waiter : X → Waiter) (calls : List X) (b : ℕ)
     (queue queue' : ℕ → List Waiter) → ((q : ℕ) → queue' q ≡ cond (b == q) [] (queue q))
     → Members at waiter calls queue
@@ -166,7 +166,7 @@ members-clear {X} at waiter calls b queue queue' f k =
         no true e p = cc
         no false e p = cc
 
--- who stands at a barrier has arrived at it
+-- a call waits at a barrier exactly if it is an arrival there
 pub arrived : (h : History) (role : Role) (o : Option Move) (object b : ℕ)
     → HousedBy h role o object → exists_as h BarrierClass b ≡ true
     → (object_by role o object == b) ≡ (is_arrival role && (object == b))
@@ -198,7 +198,7 @@ arrived h role o object b housed_at barrier = go role refl
     go ForWrite e = rw e (at_other ForWrite e (λ s. cc))
     go (ForCond m) e = rw e (at_other (ForCond m) e (of_wait m o))
 
--- a call that arrived waits at a barrier
+-- the object of an arrival is a barrier
 pub barrier-of : (h : History) → Follows h → (u : WaitingCall) → In u (open_calls h)
     → is_arrival u.role ≡ true → exists_as h BarrierClass u.object ≡ true
 barrier-of h f u i arrival = barrier u.role refl arrival
@@ -213,7 +213,7 @@ barrier-of h f u i arrival = barrier u.role refl arrival
     barrier (ForCond m) e t =
         let no : is_arrival (ForCond m) ≡ true = ap is_arrival (sym e) ∙ t in cc
 
--- the calls at a full barrier go
+-- a Trip ends the calls at its barrier
 pub queued-trip : (h : History) (u : WaitingCall) (queue queue' : ℕ → List Waiter)
     (admitted admitted' made made' : ℕ → Bool) → Follows h → In u (open_calls h)
     → is_arrival u.role ≡ true

@@ -1,4 +1,4 @@
--- Queues that are right still: nothing that they are read off has changed.
+-- Queues that are still right, since nothing on which they depend has changed.
 use Rattle.std.proofs.Common.{◌≡◌, ℕ, Bool, List, Option, is_some, Result, Ok, Err, OnOk, OnErr}
 use Rattle.std.proofs.Common.{sym, ap, ◌∙◌, subst}
 use Rattle.pt_waitq.specs.declared.waiter.Waiter.{Waiter}
@@ -33,7 +33,7 @@ members-same at reading calls queue queue' same k =
           subst (λ (xs : List Waiter). In (reading w) xs) (sym (same (at w))) (k.held w i);
     }
 
--- queues that are right are right in other lists
+-- queues that are the same as right ones are right
 pub queued-lists : (h : History) (queue queue' : ℕ → List Waiter)
     (admitted admitted' made made' : ℕ → Bool)
     → ((q : ℕ) → queue' q ≡ queue q) → ((c : ℕ) → admitted' c ≡ admitted c)
@@ -46,7 +46,7 @@ queued-lists h queue queue' admitted admitted' made made' lists a m k =
       makes = λ o. m o ∙ k.makes o;
     }
 
--- calls that were moved as they were before stand where they stood, and wait as they did
+-- a call whose move is unchanged waits where it did, and as it did
 pub stands-same : (h g : History) (w : WaitingCall) → moved g w.place ≡ moved h w.place
     → (at_object g w ≡ at_object h w) × (waiter g w ≡ waiter h w)
 stands-same h g w e = (
@@ -54,7 +54,7 @@ stands-same h g w e = (
   ap (λ (v : Option Move). waiter_by v w) e,
 )
 
--- the same calls, each moved as it was before, in the same queues
+-- the same calls, each with the move it had, are in the same queues
 pub members-carry : (h g : History) (queue queue' : ℕ → List Waiter)
     → ((q : ℕ) → queue' q ≡ queue q) → open_calls g ≡ open_calls h
     → ((w : WaitingCall) → In w (open_calls h) → moved g w.place ≡ moved h w.place)
@@ -66,8 +66,8 @@ members-carry h g queue queue' queues calls moves k =
     (λ w i. stands-same h g w (moves w i))
     (members-same (at_object h) (waiter h) (open_calls h) queue queue' queues k))
 
--- one entry more, by which no call comes, goes or is moved, no client comes or goes, and no
--- object is made or removed
+-- one more entry, by which no call comes, goes or is moved, no client comes or goes, and no object
+-- is made or removed
 pub queued-same : (h : History) (e : Entry) (queue queue' : ℕ → List Waiter)
     (admitted admitted' made made' : ℕ → Bool)
     → ((q : ℕ) → queue' q ≡ queue q) → ((c : ℕ) → admitted' c ≡ admitted c)
@@ -85,7 +85,7 @@ queued-same h e queue queue' _ _ _ _ queues rooms places calls moves lives kinds
       makes = λ o. places o ∙ k.makes o ∙ sym (kinds o);
     }
 
--- no entry more, and the same queues
+-- no new entry, and the same queues
 pub queued-kept : (h : History) (queue queue' : ℕ → List Waiter)
     (admitted admitted' made made' : ℕ → Bool)
     → ((q : ℕ) → queue' q ≡ queue q) → ((c : ℕ) → admitted' c ≡ admitted c)
@@ -98,7 +98,7 @@ queued-kept h queue queue' admitted admitted' made made' queues rooms places k =
       makes = λ o. places o ∙ k.makes o;
     }
 
--- room that is made leaves the history, and so does a refusal
+-- neither making room nor a refusal changes the history
 pub past-reserved : {T : Type 0} (answer : Result T Refusal) (old new : Stored) (room : ℕ)
     → OnOk answer (new ≡ record old { room = room }) → OnErr answer (new ≡ old)
     → past_of new ≡ past_of old
@@ -106,7 +106,7 @@ past-reserved (Ok v) old new room made same = ap past_of made
 past-reserved (Err e) old new room made same = ap past_of same
 
 module _ {A : Type 0} (old new : State A) where
-  -- the history of a state with one entry more
+  -- the history of a state with one more entry
   pub past-adds : (e : Entry) → Adds old e new → past new ≡ past old ▷ e
   past-adds e a =
       ap past_of a.stored ∙ past-pushed old.stored e

@@ -45,11 +45,11 @@ use Rattle.pt_machine.proofs.QueuedMoves.{MovesOne, can-stand-moved, queued-move
 
 module _ (h : History) (c : ℕ) (call : Asked) (n : List ℕ) (f : Follows h)
     (s : Step h (Call c call (Some Done))) (d : operation call ≡ Signals n) where
-  -- a signal wakes one wait at most, and does nothing else
+  -- a signal wakes at most one wait, and does nothing else
   wakes : effect h c call (Some Done) ≡ Wakes n false
   wakes = ap (λ (x : Operation). act h c (clock_of call) x (Some Done)) d
 
-  -- which it may do
+  -- its verdict allows this
   may : Allowed h c (effect h c call (Some Done))
   may =
       subst (λ (r : Option Outcome). Allowed h c (effect h c call r))
@@ -96,7 +96,7 @@ module _ (h : History) (c : ℕ) (call : Asked) (n : List ℕ) (f : Follows h)
         kinds = same_kinds;
       }
 
-  -- where there is none, the queues stay as they are
+  -- if there is none, the queues are unchanged
   pub queued-unmoved : (queue : ℕ → List Waiter) (admitted made : ℕ → Bool)
       → least (precedes_by (moved h)) (cond_waits h (moved h) n) ≡ None
       → IsQueued h (queues_of queue admitted made)
@@ -107,7 +107,7 @@ module _ (h : History) (c : ℕ) (call : Asked) (n : List ℕ) (f : Follows h)
       (λ w i. moves_by w.place None (wakes-none h n none w.place))
       (λ b. refl) (λ o. ap is_some (same_kinds o)) k
 
--- what the rows have as the first wait at a condition is the one that a signal wakes
+-- the first wait at a condition, as the rows have it, is the one that a signal wakes
 pub first-named : (h : History) (n : List ℕ) (q : ℕ) (first : Option Open)
     → find h n CondClass ≡ Some q
     → option_map named first ≡ least (precedes h) (filter (waits_in h q) (open_calls h))
@@ -117,7 +117,7 @@ first-named h n q first e k found is =
     ap (option_map named) (sym is)
     ∙ (k ∙ ap (least (precedes h)) (sym (waits-named h n q e)))
 
--- a deadline that passes moves its wait
+-- an Expire moves its wait
 pub moves-late : (h : History) (u : WaitingCall) → Follows h → In u (open_calls h)
     → is_wait u.role ≡ true → MovesOne h (Expire u.place) u
 moves-late h u f i t =
@@ -157,7 +157,7 @@ module _ {A : Type 0} (old new : State A) (e : Entry) (u : WaitingCall) (g : IsR
       (can-stand-moved (past old) e u (g.read.follows, g.step) m queue queue' admitted admitted'
       made made' left room there k)
 
-  -- and has taken it
+  -- and has taken it, so the queues are right
   pub queued-taken : (queue'' : ℕ → List Waiter) (admitted'' made'' : ℕ → Bool)
       → ((w : WaitingCall) → In w (open_calls (past new)) → w.client ≡ u.client → (q : ℕ)
       → queue'' q

@@ -1,4 +1,4 @@
--- What is touched and what is reserved after a seal, where nothing must follow.
+-- The object touched and the entries reserved after a seal, if nothing must follow.
 use Rattle.std.proofs.Common.{◌≡◌, ℕ, None, sym, ◌∙◌}
 use Rattle.pt_model.specs.Histories.{History, Begin}
 use Rattle.pt_model.specs.Forced.{forced}
@@ -16,12 +16,12 @@ module _ (h : History) (f : Follows h) (quiet : forced h ≡ None) where
   pub alike : GoesAlike h (Begin (seal h))
   alike = agrees_on h (Begin (seal h)) f (start-seal h f) (seal_agrees h f)
 
-  -- nothing is touched
+  -- no object is touched
   pub touched-seal : IsTouched (Begin (seal h)) None None
   touched-seal =
       let law = begins_untouched (seal h) (start-seal h f) (sym alike.forces ∙ quiet) in
       record { touches = sym law.0; enters = sym law.1 }
 
-  -- as much is reserved
+  -- as many entries are reserved
   pub reserved-seal : (reserved : ℕ) → IsReserved h reserved → IsReserved (Begin (seal h)) reserved
   reserved-seal reserved r = record { needs = r.needs ∙ alike.needs }

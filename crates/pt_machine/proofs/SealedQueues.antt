@@ -1,4 +1,4 @@
--- The queues and the deadlines are those of the seal too, where nothing must follow.
+-- The queues and the deadlines are also those of the seal, if nothing must follow.
 use Rattle.std.proofs.Common.{◌≡◌, ℕ, Bool, false, not, ◌&&◌, List, None, refl, sym, ap, ◌∙◌}
 use Rattle.std.proofs.Common.{is_some, filter}
 use Rattle.pt_waitq.specs.declared.waiter.Waiter.{Waiter}

@@ -60,7 +60,7 @@ trip-told [] = refl
 trip-told (w ∷ ws) = ap suc (trip-told ws)
 
 module _ {A : Type 0} (old new : State A) where
-  -- so there are as many answers more
+  -- so there are as many more answers
   pub trip-gone : (b before after : ℕ) → Adds old (TripEntry b) new
       → before ≡ length old.answers.items → after ≡ length new.answers.items
       → after ≡ before + length (at_barrier b (open_calls (past old)))
@@ -82,7 +82,7 @@ module _ {A : Type 0} (old new : State A) where
       (queued-trip (past old) w queue queue' admitted admitted' made made' read.follows i arrival
       gone room there k))
 
-  -- a Trip touches nothing
+  -- a Trip touches no object
   pub trip-touched : (o c : Option ℕ) (b : ℕ) → Adds old (TripEntry b) new
       → IsTouched (past old) o c → IsTouched (past new) None c
   trip-touched o c b a k =
@@ -98,7 +98,7 @@ candidate-open h f o w e =
     In-filter (λ v. at_object h v == o) (open_calls h) w
     (In-filter (is_served h) (waiting_at h o) w served).0
 
--- a call at an object that is no barrier is served as its client's
+-- a call at an object that is not a barrier is served as the open call of its client
 pub call-service : (h : History) → Follows h → (o : ℕ)
     → is_class (kind_of h o) BarrierClass ≡ false → (found : Option ℕ)
     → found ≡ client_at (candidate h o) → IsService h (candidate h o) (option_map Call found)
@@ -123,7 +123,7 @@ module _ (h : History) (f : Follows h) (b n : ℕ) (k : kind_of h b ≡ Some (ki
   barrier : option_map class_of (kind_of h b) ≡ Some BarrierClass
   barrier = ap (option_map class_of) k
 
-  -- which call is served there, by whether it is full
+  -- the call that is served at a barrier, by whether the barrier is full
   there : (t : Bool) → (length (at_barrier b (open_calls h)) == n) ≡ t
       → candidate h b ≡ cond t (first_at h b) None
   there t e =
@@ -156,7 +156,7 @@ module _ (h : History) (f : Follows h) (b n : ℕ) (k : kind_of h b ≡ Some (ki
           let at : u.object ≡ b = grind (arith, nat_tests, test.1) in
           (u, (there true full ∙ e, (part.0, (test.0, at))))
 
-  -- and another one serves none
+  -- a barrier that is not full serves none
   pub part-service : (length (at_barrier b (open_calls h)) == n) ≡ false
       → IsService h (candidate h b) None
   part-service part = there false part

@@ -1,11 +1,11 @@
--- What the tables answer, of the body that has them.
+-- What the tables answer for the body that has them.
 use Rattle.std.proofs.Common.{◌≡◌, ℕ, List, Option, Some, sym, ap, ◌∙◌}
 use Rattle.pt_types.specs.declared.operations.ObjectClass.{ObjectClass}
 use Rattle.pt_model.specs.Objects.{find}
 use Rattle.pt_state.specs.declared.state.State.{State}
 use Rattle.pt_state.specs.Adds.{past}
 
--- what a name finds in the tables is what it means
+-- the object that a name finds in the tables is the one that it means
 pub found-in : {A : Type 0} (s t : State A) → s ≡ t → (n : List ℕ) (class : ObjectClass)
     (found : Option ℕ) (o : ℕ) → found ≡ find (past s) n class → found ≡ Some o
     → find (past t) n class ≡ Some o

@@ -1,4 +1,4 @@
--- The deadlines that are set after a Join or a Moment: they are those that were set before.
+-- After a Join or a Moment, the same deadlines are set as before.
 use Rattle.std.proofs.Common.{ℕ, List, Result, Ok, Err, OnOk, OnErr, sym, ◌∙◌, subst}
 use Rattle.pt_types.specs.declared.time.Clock.{Clock}
 use Rattle.pt_model.specs.declared.entry.Entry.TheVariants.{Join, Moment}
@@ -23,7 +23,7 @@ module _ {A : Type 0} (old new : State A) (timers : List (ℕ × (Clock × ℕ))
   timed-join (Err x) k adds stays =
       subst (λ (h : History). AreTimed h timers) (sym (past-stays old new stays)) timed
 
-  -- the clock went on
+  -- a clock was read
   pub timed-moment : (z : Clock) (t : ℕ) → Adds old (Moment z t) new
       → AreTimed (past new) timers
   timed-moment z t adds =

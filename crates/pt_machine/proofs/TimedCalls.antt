@@ -46,7 +46,7 @@ use Rattle.pt_machine.proofs.NoBadDeadlines.{stood_timed, left_timed}
 use Rattle.pt_machine.proofs.TimedSteps.{at-none, at-same, at-before, set-open, still-set}
 use Rattle.pt_machine.proofs.TimedSteps.{set-stays, set-goes}
 
--- what an operation leaves at a barrier has no deadline
+-- a call that an operation leaves at a barrier has no deadline
 operation_arrival : (h : History) (c : ℕ) (z : Clock) (d : Operation) (w : WaitingCall)
     → In w (stood_by_operation h c z d) → is_arrival w.role ≡ true → w.deadline ≡ None
 operation_arrival h c z (Acquires n lock_kind how) w (inl i) a =
@@ -71,7 +71,7 @@ operation_arrival h c z (Rwunlocks n) w i a = absurd i
 operation_arrival h c z (Signals n) w i a = absurd i
 operation_arrival h c z (Broadcasts n) w i a = absurd i
 
--- the same of a call
+-- the same for a call
 stood_arrival : (h : History) (c : ℕ) (call : Asked) (r : Option Outcome) (w : WaitingCall)
     → In w (stood_by h (Call c call r)) → is_arrival w.role ≡ true → w.deadline ≡ None
 stood_arrival h c call None w i a = operation_arrival h c (clock_of call) (operation call) w i a
@@ -82,7 +82,7 @@ abbrev pub Untimed : History → Type 0
 Untimed h =
     (w : WaitingCall) → In w (open_calls h) → is_arrival w.role ≡ true → w.deadline ≡ None
 
--- each entry keeps it so
+-- each entry preserves this
 untimed_step : (h : History) (e : Entry) → Untimed h → Step h e → (w : WaitingCall)
     → In w (open_calls h) ⊎ In w (left h e) → is_arrival w.role ≡ true → w.deadline ≡ None
 untimed_step h e u s w (inl i) a = u w i a
@@ -98,14 +98,14 @@ untimed_step h _ u (trips v s j t) w (inr i) a = absurd i
 untimed_step h _ u (yields m s t) w (inr i) a = absurd i
 untimed_step h _ u (expires v s j t) w (inr i) a = absurd i
 
--- and it is so of each history
+-- and it holds for every history
 pub arrival-untimed : (h : History) → Follows h → Untimed h
 arrival-untimed h f =
     by_steps Untimed (λ w i a. absurd i)
     (λ h e f u s w i a. untimed_step h e u s w (was_open h e f s w i) a)
     (λ h f u w i a. u w (open-sealed h w i) a) h f
 
--- so nothing is set at the place of one
+-- so no deadline is set at the place of such a call
 pub set-arrival : (h : History) → Follows h → (w : WaitingCall) → In w (open_calls h)
     → is_arrival w.role ≡ true → set_at h w.place ≡ None
 set-arrival h f w i a =
@@ -118,7 +118,7 @@ set-arrival h f w i a =
     none true = refl
     none false = refl
 
--- and a Trip ends none
+-- and a Trip cancels none
 pub set-trip : (h : History) (b : ℕ) → Follows h → (p : ℕ)
     → set_at (h ▷ Trip b) p ≡ set_at h p
 set-trip h b f p = go (list_any trips_at (open_calls h)) refl
@@ -156,11 +156,11 @@ sets call = option_map (λ d. (clock_of call, deadline_nanos d)) (good_of (asked
 
 module _ (h : History) (f : Follows h) (c : ℕ) (call : Asked) (s : Step h (Call c call None))
   where
-    -- after the call
+    -- the history after the call
     abbrev after : History
     after = h ▷ Call c call None
 
-    -- the call that it leaves
+    -- the open calls, with the one that it leaves waiting
     opens : open_calls after ≡ open_calls h ++ left_by (effect h c call None)
     opens =
         open-call h c call None (Fresh-follows h f) (called h c call None s).alive
@@ -221,7 +221,7 @@ module _ (h : History) (f : Follows h) (c : ℕ) (call : Asked) (s : Step h (Cal
         good d true = refl
         good d false = refl
 
-    -- elsewhere all is as before
+    -- at other places nothing has changed
     at_old : (p : ℕ) → (place h == p) ≡ false → set_at after p ≡ set_at h p
     at_old p k =
         ap (λ ws. setting_if (at_place p (filter (is_set after) ws))) opens

@@ -1,5 +1,4 @@
--- The deadlines that are set after a call with its answer: those of the waits that it moves are
--- set no more.
+-- The deadlines that are set after an answered call: all but those of the waits that it moves.
 use Rattle.std.proofs.Common.{◌+◌, ◌≡◌, ℕ, Bool, true, false, cond, ◌&&◌, ◌==◌, List, Option, Some}
 use Rattle.std.proofs.Common.{None, is_some, length, refl, sym, ap, ◌∙◌, subst, arith}
 use Rattle.std.proofs.lemmas.Bool.Decides.{nat_tests}
@@ -46,7 +45,7 @@ both true true e = (refl, refl)
 both true false e = absurd cc
 both false b e = absurd cc
 
--- a move that an entry made is there
+-- a call that an entry moved has a move
 is_there : (k : ℕ) (o : Option Move) → is_from k o ≡ true → is_some o ≡ true
 is_there k None e = absurd cc
 is_there k (Some v) e = refl
@@ -69,7 +68,7 @@ module _ (h : History) (e : Entry) (f : Follows h) (same : open_calls (h ▷ e) 
       (is_there (place h) (moved (h ▷ e) r.0.call.place)
       (ap (is_from (place h)) (sym (are.known r.0 r.1).1) ∙ tests.0))
 
-  -- else it is moved as it was before
+  -- otherwise its move is unchanged
   stays : Went false → (w : WaitingCall) → In w (open_calls h) → w.place ≡ p
       → moved (h ▷ e) w.place ≡ moved h w.place
   stays t w i at = go (cause_by h (moved h) e w.place) refl
@@ -129,14 +128,14 @@ moves-none h c call Enotrecoverable none j = refl
 module _ {A : Type 0} (old new : State A) (timers later : List (ℕ × (Clock × ℕ))) (c : ℕ)
     (call : Asked) (x : Outcome) (ready : IsReadyFor old (Call c call (Some x)))
     (adds : Adds old (Call c call (Some x)) new) where
-  -- the open calls with the entry are those in the rows
+  -- the open calls after the entry are those in the rows
   opens-new : AreOpen (past old ▷ Call c call (Some x)) (opens_of new.clients)
   opens-new =
       subst (λ (h : History). AreOpen h (opens_of new.clients))
       (past-adds old new (Call c call (Some x)) adds)
       (are-open (past new) new.clients adds.read.follows adds.read.callers)
 
-  -- what is set at the places of the open calls is still their own
+  -- a deadline that is set at the place of an open call is still the call's own
   pub own-answered : AreTimed (past old) timers → (o : Open) → In o (opens_of new.clients)
       → HasOwnDeadline timers (called o)
   own-answered timed o i =
@@ -161,7 +160,7 @@ module _ {A : Type 0} (old new : State A) (timers later : List (ℕ × (Clock ×
       (open-answered (past old) c call x ready.read.follows ready.step)
       (opens_of new.clients) opens-new p))))
 
-  -- where it can move no wait, they are those that were set
+  -- if it can move no wait, they are those that were set before
   pub timed-unmoved : can_move_waits (operation call) ≡ false → AreTimed (past old) timers
       → AreTimed (past new) timers
   timed-unmoved none timed =

@@ -36,7 +36,7 @@ use Rattle.pt_machine.proofs.TimedSteps.{set-death, set-open}
 use Rattle.pt_machine.proofs.TimedCalls.{set-arrival, set-trip, set-left}
 use Rattle.pt_history.proofs.Places.{place_of_next}
 
--- where nothing is set at a place, nothing changes as that is cancelled
+-- cancelling the deadline at a place where none is set changes nothing
 pub unset : (set : ℕ → Option (Clock × ℕ)) (j : ℕ) → set j ≡ None → (p : ℕ)
     → cond (j == p) None (set p) ≡ set p
 unset set j e p = go (j == p) refl
@@ -47,7 +47,7 @@ unset set j e p = go (j == p) refl
         let here : j ≡ p = grind (arith, nat_tests) in
         sym e ∙ ap set here
 
--- what was set at a place and is cancelled is as before
+-- setting a deadline and cancelling it again changes nothing
 set_back : (set between after : ℕ → Option (Clock × ℕ)) (j : ℕ) (n : Clock × ℕ)
     → set j ≡ None → ((p : ℕ) → between p ≡ cond (j == p) (Some n) (set p))
     → ((p : ℕ) → after p ≡ cond (j == p) None (between p)) → (p : ℕ) → after p ≡ set p
@@ -63,7 +63,7 @@ own_setting : (k : Clock) (n : ℕ) → is_set_to k n (Some (k, n)) ≡ true
 own_setting Real n = grind (arith, nat_tests)
 own_setting Mono n = grind (arith, nat_tests)
 
--- what is set at a place and is taken away by its clock and its nanoseconds is gone
+-- a deadline that is taken away by its clock and its nanoseconds is no longer set
 pub taken : (timers later : List (ℕ × (Clock × ℕ))) (j : ℕ) (k : Clock) (n : ℕ)
     → ((d : Clock × ℕ) → deadline_at timers j ≡ Some d → Some (k, n) ≡ Some d)
     → ((p : ℕ) → deadline_at later p
@@ -81,7 +81,7 @@ taken timers later j k n own less p = less p ∙ go (j == p) refl (deadline_at t
         (Some d)) (sym (own d (ap (deadline_at timers) here ∙ e)))
         ∙ ap (λ b. cond {A = Option (Clock × ℕ)} b None (Some d)) (own_setting k n)
 
--- what was just set at a place is this
+-- the deadline at a place is the one that was just set there
 pub just-set : (timers between : List (ℕ × (Clock × ℕ))) (j : ℕ) (k : Clock) (n m : ℕ) → n ≡ m
     → ((p : ℕ) → deadline_at between p ≡ cond (j == p) (Some (k, m)) (deadline_at timers p))
     → (d : Clock × ℕ) → deadline_at between j ≡ Some d
@@ -101,7 +101,7 @@ own-none timers w own none = go (deadline_at timers w.place) refl
     go (Some d) e =
         let both = sym (ap (option_map (λ n. (w.clock, n))) none) ∙ own d e in absurd cc
 
--- what is set at the place of an open call is its own deadline
+-- a deadline that is set at the place of an open call is the call's own
 pub own-deadline : (h : History) → Follows h → (timers : List (ℕ × (Clock × ℕ)))
     → AreTimed h timers → (w : WaitingCall) → In w (open_calls h) → HasOwnDeadline timers w
 own-deadline h f timers timed w i d e =
@@ -120,14 +120,14 @@ own-deadlines s timers read timed o known =
 
 module _ {A : Type 0} (old new : State A) (timers later : List (ℕ × (Clock × ℕ)))
     (timed : AreTimed (past old) timers) where
-  -- where no entry is added, the same are set
+  -- if no entry is added, the same deadlines are set
   pub timed-stays : Stays old new → ((p : ℕ) → deadline_at later p ≡ deadline_at timers p)
       → AreTimed (past new) later
   timed-stays s t =
       subst (λ (h : History). AreTimed h later) (sym (past-stays old new s))
       (λ p. t p ∙ timed p)
 
-  -- those of the history with an entry are right for the state that has it
+  -- the deadlines of the history with an entry are right for the state that has the entry
   timed_adds : (e : Entry) → Adds old e new
       → ((p : ℕ) → deadline_at later p ≡ set_at (past old ▷ e) p) → AreTimed (past new) later
   timed_adds e a t =
@@ -137,14 +137,14 @@ module _ {A : Type 0} (old new : State A) (timers later : List (ℕ × (Clock ×
   abbrev Cancels : ℕ → Type 0
   Cancels j = (p : ℕ) → deadline_at later p ≡ cond (j == p) None (deadline_at timers p)
 
-  -- a cancelled deadline of the history before
+  -- a deadline of the history before is cancelled
   cancelled : (j : ℕ) → Cancels j → (p : ℕ)
       → deadline_at later p ≡ cond (j == p) None (set_at (past old) p)
   cancelled j k p = k p ∙ ap (cond (j == p) None) (timed p)
 
 module _ {A : Type 0} (old : State A) (timers : List (ℕ × (Clock × ℕ))) (c : ℕ) (call : Asked)
     (ready : IsReadyFor old (Call c call None)) (timed : AreTimed (past old) timers) where
-  -- the place of a call that comes now
+  -- the place of the call that comes next
   abbrev IsNext : ℕ → Type 0
   IsNext j = j ≡ old.stored.start.at + length old.stored.entries
 
@@ -185,7 +185,7 @@ module _ {A : Type 0} (old : State A) (timers : List (ℕ × (Clock × ℕ))) (c
       good_one : good_of (asked (operation call)) ≡ Some d
       good_one = ap good_of written ∙ ap (λ b. cond b None (Some d)) good
 
-      -- the deadline that was set first is that of the call
+      -- the deadline that was set before the push is that of the call
       pub timed-left : (new : State A) → Adds old (Call c call None) new
           → AreTimed (past new) between
       timed-left new a =
@@ -200,7 +200,7 @@ module _ {A : Type 0} (old : State A) (timers : List (ℕ × (Clock × ℕ))) (c
           (set_at (past old) p)) (sym good_one)
           ∙ sym (set-left (past old) ready.read.follows c call ready.step p))))))
 
-      -- where the call is refused, it is cancelled
+      -- if the call is refused, its deadline is cancelled
       pub timed-refused : (new : State A) (later : List (ℕ × (Clock × ℕ))) → Stays old new
           → ((p : ℕ) → deadline_at later p ≡ cond (j == p) None (deadline_at between p))
           → AreTimed (past new) later
@@ -227,7 +227,7 @@ module _ {A : Type 0} (old new : State A) (timers later : List (ℕ × (Clock ×
       timed_adds old new timers timers timed (Death c) a
       (λ p. timed p ∙ sym (set-death-free (past old) c read.follows e p))
 
-  -- a lock was given up for a dead owner
+  -- a mutex was taken from its dead owner
   pub timed-yield : (m : ℕ) → Adds old (Yield m) new → AreTimed (past new) timers
   timed-yield m a =
       timed_adds old new timers timers timed (Yield m) a

@@ -30,7 +30,7 @@ use Rattle.pt_state.proofs.CallerFinds.{call_of-in, call_of-place}
 use Rattle.pt_machine.specs.Timed.{timed, is_set, setting, setting_if, set_at}
 use Rattle.pt_machine.proofs.NoBadDeadlines.{timed_old}
 
--- no call is found at a place, where none that came there passes
+-- no call is found at a place if none that came there passes the test
 pub at-none : (p : ℕ) (test : WaitingCall → Bool) (ws : List WaitingCall)
     → ((w : WaitingCall) → In w ws → w.place ≡ p → test w ≡ false)
     → at_place p (filter test ws) ≡ None
@@ -47,7 +47,7 @@ at-none p test (w ∷ ws) f =
         let at : w.place ≡ p = grind (arith, nat_tests) in
         absurd (false≢true (sym (f w (inl refl) at) ∙ e))
 
--- two tests that agree at a place find the same there
+-- two tests that agree at a place find the same call there
 pub at-same : (p : ℕ) (test other : WaitingCall → Bool) (ws : List WaitingCall)
     → ((w : WaitingCall) → In w ws → w.place ≡ p → test w ≡ other w)
     → at_place p (filter test ws) ≡ at_place p (filter other ws)
@@ -77,14 +77,14 @@ at-same p test other (w ∷ ws) f =
     go false k ih =
         aside (test w) (filter test ws) k ∙ (ih ∙ sym (aside (other w) (filter other ws) k))
 
--- calls at other places, after these, change nothing
+-- calls at other places that are added after these change nothing
 pub at-before : (p : ℕ) (ws vs : List WaitingCall) → at_place p vs ≡ None
     → at_place p (ws ++ vs) ≡ at_place p ws
 at-before p [] vs e = e
 at-before p (w ∷ ws) vs e =
     ap (λ (o : Option WaitingCall). cond (w.place == p) (Some w) o) (at-before p ws vs e)
 
--- the only call of a place is found there
+-- the only call that came at a place is found there
 at_only : (ws : List WaitingCall) (w : WaitingCall) → In w ws
     → ((v : WaitingCall) → In v ws → v.place ≡ w.place → v ≡ w) → at_place w.place ws ≡ Some w
 at_only [] w i one = absurd i
@@ -115,14 +115,14 @@ set-open h f w i = go (is_set h w) refl
         ap setting_if (at-none w.place (is_set h) (open_calls h)
         (λ v j at. ap (is_set h) (one_open h f v w j i at) ∙ e))
 
--- nothing is set at places from the next one on
+-- no deadline is set at the next place
 pub set-new : (h : History) → Follows h → set_at h (place h) ≡ None
 set-new h f =
     ap setting_if (at-none (place h) (is_set h) (open_calls h)
     (λ w i at. let lt : w.place < place h = (below_open h w (Fresh-follows h f) i).0 in
     absurd (omega (arith, lt, at))))
 
--- of an open call that is moved as before the deadline can pass as before
+-- the deadline of an open call whose move is unchanged can pass if and only if it could before
 pub still-set : (h : History) (e : Entry) (w : WaitingCall) → Follows h → In w (open_calls h)
     → moved (h ▷ e) w.place ≡ moved h w.place → is_set (h ▷ e) w ≡ is_set h w
 still-set h e w f i m =
@@ -131,14 +131,14 @@ still-set h e w f i m =
 
 module _ (h : History) (e : Entry) (f : Follows h) (test : WaitingCall → Bool)
     (kept : open_calls (h ▷ e) ≡ filter test (open_calls h)) (p : ℕ) where
-  -- what is set, read off the open calls before the entry
+  -- the deadline at a place, by the calls that were open before the entry
   set_before : set_at (h ▷ e) p
       ≡ setting_if (at_place p (filter (λ w. test w && is_set (h ▷ e) w) (open_calls h)))
   set_before =
       ap (λ ws. setting_if (at_place p (filter (is_set (h ▷ e)) ws))) kept
       ∙ ap (λ ws. setting_if (at_place p ws)) (filter-filter (is_set (h ▷ e)) test (open_calls h))
 
-  -- where an entry leaves the call at a place, and doesn't move it, its deadline stays
+  -- if an entry leaves the call at a place open and does not move it, its deadline stays set
   pub set-stays : ((w : WaitingCall) → In w (open_calls h) → w.place ≡ p
       → (test w ≡ true) × (moved (h ▷ e) w.place ≡ moved h w.place))
       → set_at (h ▷ e) p ≡ set_at h p
@@ -148,7 +148,7 @@ module _ (h : History) (e : Entry) (f : Follows h) (test : WaitingCall → Bool)
       (λ w i at. ap (λ b. b && is_set (h ▷ e) w) (k w i at).0
       ∙ still-set h e w f i (k w i at).1))
 
-  -- where it takes the call away, or moves it, none is set any more
+  -- if it ends the call or moves it, no deadline is set there any more
   pub set-goes : ((w : WaitingCall) → In w (open_calls h) → w.place ≡ p
       → (test w && not (is_moved (h ▷ e) w)) ≡ false)
       → set_at (h ▷ e) p ≡ None
@@ -169,17 +169,17 @@ module _ (h : History) (e : Entry) (f : Follows h) (same : open_calls (h ▷ e) 
   none_left : open_calls (h ▷ e) ≡ filter (λ w. true) (open_calls h)
   none_left = same ∙ sym (filter-all (λ w. true) (open_calls h) (λ w i. refl))
 
-  -- where the same calls are open, and that at a place isn't moved, its deadline stays
+  -- if the same calls are open and the one at a place is not moved, its deadline stays set
   pub set-same : ((w : WaitingCall) → In w (open_calls h) → w.place ≡ p
       → moved (h ▷ e) w.place ≡ moved h w.place) → set_at (h ▷ e) p ≡ set_at h p
   set-same k = set-stays h e f (λ w. true) none_left p (λ w i at. (refl, k w i at))
 
-  -- and where it is, none is set any more
+  -- and if it is moved, no deadline is set there any more
   pub set-moved : ((w : WaitingCall) → In w (open_calls h) → w.place ≡ p
       → is_moved (h ▷ e) w ≡ true) → set_at (h ▷ e) p ≡ None
   set-moved k = set-goes h e f (λ w. true) none_left p (λ w i at. ap not (k w i at))
 
--- a Join sets and ends none
+-- a Join sets no deadline and cancels none
 pub set-join : (h : History) (k : ℕ) → Follows h → (p : ℕ)
     → set_at (h ▷ Join (place h) k) p ≡ set_at h p
 set-join h k f p =
@@ -196,7 +196,7 @@ pub set-yield : (h : History) (m : ℕ) → Follows h → (p : ℕ)
     → set_at (h ▷ Yield m) p ≡ set_at h p
 set-yield h m f p = set-same h (Yield m) f (open-yield h m) p (λ w i at. refl)
 
--- an entry that takes the call at place j away and moves no other
+-- an entry that ends the call at place j and moves none
 pub set-out : (h : History) (e : Entry) (j : ℕ) → Follows h
     → open_calls (h ▷ e) ≡ filter (λ w. not (w.place == j)) (open_calls h)
     → ((w : WaitingCall) → In w (open_calls h) → moved (h ▷ e) w.place ≡ moved h w.place)
@@ -212,12 +212,12 @@ set-out h e j f left moves p = go (j == p) refl
         (λ w i at. let other : (w.place == j) ≡ false = grind (arith, nat_tests) in
         (ap not other, moves w i))
 
--- a Grant ends the deadline of its call
+-- a Grant cancels the deadline of its call
 pub set-grant : (h : History) (j : ℕ) (x : Outcome) → Follows h → (p : ℕ)
     → set_at (h ▷ Grant j x) p ≡ cond (j == p) None (set_at h p)
 set-grant h j x f p = set-out h (Grant j x) j f (open-grant h j x) (λ w i. refl) p
 
--- an Expire ends the deadline of its call: a wait is moved, another call goes
+-- an Expire cancels the deadline of its call: a wait is moved, any other call ends
 pub set-expire : (h : History) (u : WaitingCall) → Follows h → In u (open_calls h) → (p : ℕ)
     → set_at (h ▷ Expire u.place) p ≡ cond (u.place == p) None (set_at h p)
 set-expire h u f i p = go (u.place == p) refl
@@ -253,7 +253,7 @@ set-expire h u f i p = go (u.place == p) refl
               apart,
         ))
 
--- the death of a client with no open call ends none
+-- the death of a client with no open call cancels none
 pub set-death-free : (h : History) (c : ℕ) → Follows h → open_place h c ≡ None → (p : ℕ)
     → set_at (h ▷ Death c) p ≡ set_at h p
 set-death-free h c f e p =
@@ -267,7 +267,7 @@ set-death-free h c f e p =
         let its : w.client ≡ c = grind (arith, nat_tests) in
         absurd (none_of_client (open_calls h) c w e i its)
 
--- the death of a client ends the deadline of its open call
+-- the death of a client cancels the deadline of its open call
 pub set-death : (h : History) (c j : ℕ) → Follows h → open_place h c ≡ Some j → (p : ℕ)
     → set_at (h ▷ Death c) p ≡ cond (j == p) None (set_at h p)
 set-death h c j f e p = found (call_of (open_calls h) c) refl

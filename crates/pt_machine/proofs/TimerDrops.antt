@@ -19,7 +19,7 @@ use Rattle.pt_machine.specs.Timed.{was_moved_at}
 abbrev pub went : ℕ → ℕ → Open → Bool
 went k p o = was_moved_at k o && (o.call.place == p)
 
--- the deadline at place p, where those of the calls that the entry at place k moved are dropped
+-- the deadline at place p, after those of the calls that the entry at place k moved are dropped
 abbrev pub dropped : ℕ → List Open → Option (Clock × ℕ) → ℕ → Option (Clock × ℕ)
 dropped k opens before p = cond (list_any (went k p) opens) None before
 
@@ -36,7 +36,7 @@ any_first : (q : Open → Bool) (first : Option Open) (os : List Open)
 any_first q None os = refl
 any_first q (Some o) os = refl
 
--- a test of the calls in one row more
+-- a test of the calls in one more row
 any-more : (q : Open → Bool) (rows : List (ClientRow Caller)) (i : ℕ)
     → list_any q (opens_of (take (i + 1) rows))
     ≡ (list_any q (opens_of (take i rows)) || passes q (open_in (nth_value rows i)))
@@ -63,7 +63,7 @@ dropped_again false false x y e = e
 
 module _ (k : ℕ) (rows : List (ClientRow Caller)) (i : ℕ) (before now : ℕ → Option (Clock × ℕ))
     (so_far : (p : ℕ) → now p ≡ dropped k (opens_of (take i rows)) (before p) p) where
-  -- one row more
+  -- one more row
   more : (p : ℕ) → cond (passes (went k p) (open_in (nth_value rows i))) None (now p)
       ≡ dropped k (opens_of (take (i + 1) rows)) (before p) p
   more p =
@@ -99,13 +99,13 @@ pub rows-all : (k : ℕ) (rows : List (ClientRow Caller)) (n : ℕ) → length r
 rows-all k rows n all before p =
     ap (λ rs. dropped k (opens_of rs) before p) (take_all n rows all)
 
--- where none is set, none is dropped
+-- if none is set, none is dropped
 pub drops-none : (b : Bool) (before : Option (Clock × ℕ)) → before ≡ None
     → before ≡ cond b None before
 drops-none true before e = e
 drops-none false before e = refl
 
--- none is set where no clock has a least one
+-- no deadline is set if neither clock has one
 unset : (ts : List (ℕ × (Clock × ℕ))) → ((q m : ℕ) → deadline_at ts q ≡ Some (Real, m) → ⊥)
     → ((q m : ℕ) → deadline_at ts q ≡ Some (Mono, m) → ⊥) → (p : ℕ) → deadline_at ts p ≡ None
 unset ts real mono p = go (deadline_at ts p) refl

@@ -1,5 +1,5 @@
--- What is right for the seal of a history is right for the history: queues, deadlines, what is
--- reserved.
+-- Queues, deadlines and reserved entries that are right for the seal of a history are right for the
+-- history.
 use Rattle.std.proofs.Common.{◌≡◌, ℕ, Bool, List, None, refl, sym, ap, ◌∙◌, subst}
 use Rattle.pt_waitq.specs.declared.waiter.Waiter.{Waiter}
 use Rattle.pt_waitq.specs.Queues.{queues_of}
@@ -41,7 +41,7 @@ pub timed-unsealed : (h : History) (timers : List (ℕ × (Clock × ℕ))) → F
     → forced h ≡ None → AreTimed (Begin (seal h)) timers → AreTimed h timers
 timed-unsealed h timers f n t p = t p ∙ sym (set-alike h f n p)
 
--- as much is reserved
+-- as many entries are reserved
 pub reserved-unsealed : (h : History) → Follows h → forced h ≡ None → (reserved : ℕ)
     → IsReserved (Begin (seal h)) reserved → IsReserved h reserved
 reserved-unsealed h f n reserved r = record { needs = r.needs ∙ sym (alike h f n).needs }

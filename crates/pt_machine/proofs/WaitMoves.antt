@@ -1,4 +1,4 @@
--- WaitMoves: no open call is moved but a wait.
+-- WaitMoves: no open call but a wait is moved.
 use Rattle.std.proofs.Common.{◌≡◌, ℕ, ◌==◌, Bool, true, false, cond, ◌⊎◌, inl, inr, Option, Some}
 use Rattle.std.proofs.Common.{None, refl, sym, ap, ◌∙◌, arith}
 use Rattle.std.proofs.lemmas.Bool.Decides.{nat_tests}
@@ -32,12 +32,12 @@ use Rattle.pt_model.proofs.Opens.{open-sealed, left, was_open}
 use Rattle.pt_model.proofs.Seats.{move-sealed}
 use Rattle.pt_model.proofs.Sound.{Fresh-follows}
 
--- a call that is no wait isn't moved
+-- a call that is not a wait is not moved
 abbrev pub PlainStays : History → WaitingCall → Type 0
 PlainStays h w = In w (open_calls h) → is_wait w.role ≡ false → moved h w.place ≡ None
 
 module _ (h : History) (f : Follows h) (w : WaitingCall) (plain : is_wait w.role ≡ false) where
-  -- nothing that a call does moves it
+  -- no effect of a call moves it
   no_cause : In w (open_calls h) → (E : Effect) → cause_effect h (moved h) E w.place ≡ None
   no_cause i (Wakes n true) =
       let none : waits_at h (moved h) n w ≡ false = rw plain refl in

@@ -1,4 +1,4 @@
--- Lists: lists of waiting calls in ascending order of their places, and searches of them.
+-- Lists of waiting calls in ascending order of their places, and searches of them.
 use Rattle.std.proofs.Common.{◌≡◌, ℕ, suc, ◌+◌, ◌<◌, ◌≤◌, Bool, true, false, ◌&&◌, ◌||◌, cond, eqb}
 use Rattle.std.proofs.Common.{ltb, leb, List, [], ◌∷◌, ◌++◌, Option, Some, None, refl, sym, ap, ◌∙◌}
 use Rattle.std.proofs.Common.{arith, filter, inl, inr}
@@ -67,7 +67,7 @@ pub Each-append :
 Each-append P [] ws a b = b
 Each-append P (v ∷ vs) ws a b = (a.0, Each-append P vs ws a.1 b)
 
--- there is none at a place before all
+-- there is none at a place before all of them
 pub at_place-before :
     (j n : ℕ) (ws : List WaitingCall) → Ascends n ws → j < n → at_place j ws ≡ None
 at_place-before j n [] a lt = refl
@@ -89,7 +89,7 @@ from-before i n (w ∷ ws) a le =
     let late : leb i w.place ≡ true = le-leb i w.place (omega (arith, a.0)) in
     rw late (ap (λ vs. w ∷ vs) (from-before i (suc w.place) ws a.1 (omega (arith, a.0))))
 
--- one place more
+-- those before the next place are those before this one, and the one at this place
 pub upto_more :
     (i n : ℕ) (ws : List WaitingCall) → Ascends n ws
     → upto (i + 1) ws ≡ upto i ws ++ listed (at_place i ws)
@@ -115,7 +115,7 @@ upto_more i n (w ∷ ws) a =
           (rw (ne_eqb w.place i (λ e. omega (arith, behind))) (upto_more i (suc w.place) ws a.1))
     ]
 
--- one place less
+-- those from a place on are the one at this place, and those from the next place on
 pub from_more :
     (i n : ℕ) (ws : List WaitingCall) → Ascends n ws
     → from i ws ≡ listed (at_place i ws) ++ from (i + 1) ws
@@ -185,7 +185,7 @@ at_place-below j (w ∷ ws) e =
     let other : eqb w.place j ≡ false = ne_eqb w.place j (λ k. omega (arith, e.0)) in
     rw other (at_place-below j ws e.1)
 
--- the call that a filter keeps at a place
+-- the call at a place, after a filter
 pub at_place-filter :
     (p : WaitingCall → Bool) (i n : ℕ) (ws : List WaitingCall) → Ascends n ws
     → at_place i (filter p ws) ≡ keep p (at_place i ws)
@@ -221,7 +221,7 @@ at_place-place i (v ∷ vs) w e = go (eqb v.place i) refl e (at_place-place i vs
     go true t k ih = let same : v ≡ w = cc in ap (λ u. u.place) (sym same) ∙ eqb-true v.place i t
     go false t k ih = ih k
 
--- a test of its place is a test of the place
+-- a test of the place of a call that is found by its place is a test of that place
 pub passes_place :
     (q : WaitingCall → Bool) (j i : ℕ) (ws : List WaitingCall)
     → passes (λ w. q w && ltb j w.place) (at_place i ws) ≡ (ltb j i && passes q (at_place i ws))
@@ -242,7 +242,7 @@ passes_place q j i ws = go (at_place i ws) refl
     go None e = none (ltb j i)
     go (Some w) e = ap (λ k. q w && ltb j k) (at_place-place i ws w e) ∙ swap (q w) (ltb j i)
 
--- a search of those that a filter keeps
+-- a search of those that pass a filter
 pub any-filter :
     {A : Type 0} (p q : A → Bool) (ws : List A)
     → list_any p (filter q ws) ≡ list_any (λ w. q w && p w) ws
@@ -259,7 +259,7 @@ or_true : (a : Bool) → (a || true) ≡ true
 or_true true = refl
 or_true false = refl
 
--- what is found at a place is found
+-- what is found at a place is in the list
 pub any-at :
     (p : WaitingCall → Bool) (i : ℕ) (ws : List WaitingCall) → passes p (at_place i ws) ≡ true
     → list_any p ws ≡ true
@@ -271,7 +271,7 @@ any-at p i (w ∷ ws) e = go (eqb w.place i) e (any-at p i ws)
     go true t ih = rw t refl
     go false t ih = rw (ih t) (or_true (p w))
 
--- what is found at no place is nowhere
+-- what is found at no place is not in the list
 pub any-nowhere :
     (p : WaitingCall → Bool) (m n : ℕ) (ws : List WaitingCall) → Ascends m ws
     → Each (λ w. w.place < n) ws

@@ -1,4 +1,4 @@
--- What agrees goes on alike: whatever comes next, it agrees again and is answered alike.
+-- Histories that agree go on alike: whatever comes next, they agree again and answer alike.
 use Rattle.std.proofs.Common.{◌≡◌, ℕ, suc, ◌⊎◌, inl, inr, ◌==◌, Bool, true, false, cond, not, ◌&&◌}
 use Rattle.std.proofs.Common.{◌||◌, List, [], ◌∷◌, ◌++◌, Option, Some, None, refl, sym, ap, ◌∙◌}
 use Rattle.std.proofs.Common.{subst, arith, filter}
@@ -54,7 +54,7 @@ use Rattle.pt_model.proofs.Agreeing.{alive-alike}
 use Rattle.pt_model.proofs.Alike.{verdict-alike, entry-alike, refusal-alike, need-alike}
 use Rattle.pt_model.proofs.Alike.{effect-alike}
 
--- an object of this class is there, or is the next to be made
+-- an object of this class exists, or is the next to be made
 abbrev pub IsNear : History → ObjectClass → ℕ → Type 0
 IsNear h s o = (is_class (kind_of h o) s ≡ true) ⊎ (place h ≡ o)
 
@@ -84,7 +84,7 @@ module _ (h g : History) (a : Agree h g) (f : Follows h) (k : Follows g) where
       (unmade-all h f).readers r c (omega (arith, e))
       ∙ sym ((unmade-all g k).readers r c (omega (arith, e, a.places)))
 
-  -- where the rest goes on alike, all does
+  -- two histories agree after an entry if they do in what depends on it
   more : (e : Entry)
       → ((o : ℕ) → kind_of (h ▷ e) o ≡ kind_of (g ▷ e) o)
       → ((s : ObjectClass) (o : ℕ) → is_class (kind_of (h ▷ e) o) s ≡ true → IsNear h s o)
@@ -114,7 +114,7 @@ module _ (h g : History) (a : Agree h g) (f : Follows h) (k : Follows g) where
         moves = moves;
       }
 
-  -- an entry that leaves nothing waiting moves no call but the ones that were open
+  -- after an entry that leaves nothing waiting, each open call was open before
   was : (e : Entry) → Step h e → left h e ≡ [] → (w : WaitingCall) → In w (open_calls (h ▷ e))
       → In w (open_calls h)
   was e s none w i =
@@ -331,7 +331,7 @@ module _ (h g : History) (a : Agree h g) (f : Follows h) (k : Follows g) where
   told-alike _ (ticks z t n) = refl
   told-alike _ (yields m s t) = refl
 
--- what agrees goes on alike
+-- histories that agree go on alike
 pub agrees_on : AgreesOn
 agrees_on h g f k a =
     record {

@@ -91,7 +91,7 @@ module _ (h : History) (f : Follows h) where
       (λ w i ne. rw ne refl) in
       omega (arith, one)
 
-  -- what is woken has used one of its three entries
+  -- a call that is woken has used one of its three entries
   pub reserved_old : (E : Effect)
       → total (λ w. reserved_by (place h) (cause_effect h (moved h) E w.place)
       (moved h w.place)) (open_calls h) + length (woken_by h E)
@@ -111,7 +111,7 @@ module _ (h : History) (f : Follows h) where
   reserved_old (Returns r) = omega arith
   reserved_old (Waits w) = omega arith
 
-  -- what has just come has three
+  -- a call that has just come has three
   pub reserved_new : (c : ℕ) (E : Effect) → Allowed h c E
       → total (λ w. reserved_by (place h) (cause_effect h (moved h) E w.place) (moved h w.place))
       (left_by E) ≡ 3 * length (left_by E)

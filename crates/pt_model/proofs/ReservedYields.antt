@@ -37,7 +37,7 @@ use Rattle.pt_model.proofs.Services.{none-orphan}
 plus_none : (n : ℕ) → n + 0 ≡ n
 plus_none n = omega arith
 
--- the mutex of which an effect gives a lock back
+-- the mutex that an effect gives back a lock on
 abbrev pub freed : Effect → Option ℕ
 freed (Frees m) = Some m
 freed (Waits w) = mutex_awaited w.role
@@ -69,7 +69,7 @@ module _ (h : History) (f : Follows h) where
       (ap (λ x. count h x c == 1) (sym same) ∙ e)
   none_same k m c false e eb = rw eb refl
 
-  -- a robust mutex whose last lock is given back
+  -- after the last lock on a robust mutex is given back, one robust mutex less has an owner
   freed_last : (k c : ℕ) → owning h k c ≡ true → is_robust (kind_of h k) ≡ true → (count h k c == 1)
       ≡ true
       → suc (count_below (place h) (λ m. is_robust (kind_of h m) && is_some
@@ -148,7 +148,7 @@ module _ (h : History) (f : Follows h) where
                 (λ m lt. same_but (k == m) m ea refl),
           )
 
-  -- what may be ended has no owner that would be asked to yield
+  -- an object that may be destroyed is no robust mutex with an owner
   ended_unowned : (n : List ℕ) (s : ObjectClass) (q : ℕ) → forced h ≡ None → find h n s ≡ Some q
       → is_busy h s q ≡ false → is_robust_owned h q ≡ false
   ended_unowned n s q none e idle =

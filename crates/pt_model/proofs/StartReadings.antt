@@ -6,7 +6,7 @@ use Rattle.pt_types.specs.declared.time.Clock.TheVariants.{Real, Mono}
 use Rattle.pt_model.specs.Starts.{Start, nothing}
 use Rattle.pt_model.specs.StartRows.{clock_in, no_rows, reads_of}
 
--- off no rows nothing is read
+-- a Start without rows reads as nothing
 pub rows-none : reads_of no_rows ≡ nothing
 rows-none = ap (λ (clock : Clock → _). record nothing { clock = clock }) (fun_ext none)
   where

@@ -1,4 +1,4 @@
 -- LinkLemmas: rows that are added can be put into a chain
 mod LinkLemmas
--- PlayLemmas: a list in play stays in play as a change is made
+-- PlayLemmas: a list in play stays in play when a change is made
 mod PlayLemmas

@@ -17,7 +17,7 @@ by-link rows n e = (has (object_at rows n) e, ap linked_by e)
     has None e = ap is_some e
     has (Some row) e = refl
 
--- a row that is there has a link, which says whether it is free
+-- a row that exists has a link, which says whether it is free
 kept : (rows new : List (ObjectRow ℕ)) (n : ℕ) → link_of new n ≡ link_of rows n → IsFree rows n
     → IsFree new n
 kept rows new n e free =
@@ -30,7 +30,7 @@ kept rows new n e free =
     linked None (Some row) e there = ap is_some e
     linked (Some row) p e there = refl
 
--- one row more is added
+-- one more row is added
 pub one-more : (rows : List (ObjectRow ℕ)) (number : ℕ) (name : List ℕ) (value : ℕ)
     → is_taken rows number name ≡ false → AreFree rows number
     → AreFree (and_object rows number name value) (number + 1)

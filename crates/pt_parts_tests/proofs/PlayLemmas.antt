@@ -1,4 +1,4 @@
--- PlayLemmas: a list in play stays in play as a change is made.
+-- PlayLemmas: a list in play stays in play when a change is made.
 use Rattle.std.proofs.Common.{ℕ, ◌≡◌, ◌<◌, ◌+◌, Bool, List, sym, subst, arith, ◌∙◌}
 use Rattle.std.specs.List.{AllByRecursion as Each}
 use Rattle.pt_waitq.specs.declared.waiter.Waiter.{Waiter}
@@ -7,14 +7,14 @@ use Rattle.pt_waitq.specs.ListLemmas.{Each-weaker}
 use Rattle.pt_waitq.proofs.CallerLemmas.{without-each}
 use Rattle.pt_parts_tests.specs.Playing.{IsInPlay}
 
--- who came before a place came before the next one
+-- a waiter that came before a place came before the next one too
 pub later : (n : ℕ) (ws : List Waiter) → Each (λ v. v.moved < n) ws
     → Each (λ v. v.moved < n + 1) ws
 later n ws a =
     Each-weaker (λ (v : Waiter). v.moved < n) (λ v. v.moved < n + 1) (λ v lt. omega (arith, lt))
     ws a
 
--- a change after which all who wait came before the next place
+-- a change after which all waiters came before the next place
 pub plays : (before after : ℕ → List Waiter) (admitted admits made makes : ℕ → Bool) (n : ℕ)
     → IsInPlay (queues_of before admitted made) n → ((c : ℕ) → admits c ≡ admitted c)
     → ((q : ℕ) → makes q ≡ made q) → ((q : ℕ) → Each (λ v. v.moved < n + 1) (after q))

@@ -1,4 +1,4 @@
--- Who is admitted, as the lists change.
+-- Which clients are admitted, when the lists change.
 use Rattle.std.proofs.Common.{◌≡◌, ℕ, ◌==◌, ◌<◌, Bool, true, false, not, ◌&&◌, ◌||◌, List, [], ◌∷◌}
 use Rattle.std.proofs.Common.{◌++◌, length, filter, Option, Some, None, IfSome, IfNone, is_some}
 use Rattle.std.proofs.Common.{refl, sym, ap, ◌∙◌, arith, eq-eqb}
@@ -8,7 +8,7 @@ use Rattle.pt_waitq.specs.Queues.{In}
 use Rattle.pt_waitq.specs.Waits.{is_listed, has_waiter}
 use Rattle.pt_waitq.specs.ListLemmas.{any-in, any-out, any-append, any-without, filter-fewer}
 
--- a client that stands nowhere is dismissed
+-- a client that waits nowhere is dismissed
 pub dismissed : (c : ℕ) (cs : List ℕ) (es : List (ℕ × Waiter)) → has_waiter c es ≡ false
     → (d : ℕ) → (is_listed d (filter (λ x. not (x == c)) cs) || has_waiter d es)
     ≡ (not (c == d) && (is_listed d cs || has_waiter d es))
@@ -26,7 +26,7 @@ or_true : (y : Bool) → (y || true) ≡ true
 or_true true = refl
 or_true false = refl
 
--- an idle client begins to stand
+-- an idle client begins to wait
 pub inserted : (c : ℕ) (cs : List ℕ) (es : List (ℕ × Waiter)) (e : ℕ × Waiter)
     → e.1.client ≡ c → is_listed c cs ≡ true
     → (d : ℕ) → (is_listed d (filter (λ x. not (x == c)) cs) || has_waiter d (es ++ e ∷ []))
@@ -60,7 +60,7 @@ admitted-more c cs es d =
     go false true y = refl
     go false false y = refl
 
--- a client that stands becomes idle
+-- a client that waits becomes idle
 pub removed : (c : ℕ) (cs : List ℕ) (es : List (ℕ × Waiter)) → has_waiter c es ≡ true
     → (d : ℕ)
     → (is_listed d (cs ++ c ∷ []) || has_waiter d (filter (λ e. not (e.1.client == c)) es))
@@ -79,7 +79,7 @@ removed c cs es a d =
     go false true y t ey = refl
     go false false y t ey = refl
 
--- how many are left
+-- fewer clients are idle once one is taken out
 pub fewer-idle : (c : ℕ) (cs : List ℕ) → is_listed c cs ≡ true
     → length (filter (λ x. not (x == c)) cs) < length cs
 fewer-idle c cs a =

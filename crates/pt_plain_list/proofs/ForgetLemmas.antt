@@ -1,4 +1,4 @@
--- Forget: what is left of a list as elements are taken away from its end to its start.
+-- What is left of a list when elements are taken away from its end to its start.
 use Rattle.std.proofs.Common.{◌≡◌, ℕ, zero, suc, ◌-◌, ◌<◌, ◌≤◌, Bool, true, false, cond, List, []}
 use Rattle.std.proofs.Common.{◌∷◌, ◌++◌, length, take, drop, filter, get_or, refl, sym, ap, ◌∙◌}
 use Rattle.std.proofs.Common.{subst, arith, length-append, length-take, length-drop}
@@ -59,7 +59,7 @@ module _ {X : Type 0} (p : X → Bool) where
       ap (λ zs. remove zs (suc k)) e
       ∙ ap (λ zs. o ∷ zs) (goes old ys k x (omega arith) refl there t)
 
-  -- an element is kept, or taken away
+  -- an element stays, or is taken away
   pub kept-more : (old xs : List X) (i : ℕ) (x : X) → 0 < i → i ≤ length old
       → xs ≡ take i old ++ filter p (drop i old) → x ≡ get_or xs (i - 1) x → p x ≡ true
       → xs ≡ take (i - 1) old ++ filter p (drop (i - 1) old)

@@ -1,8 +1,8 @@
--- AdmittedLemmas: who is admitted, as the lists change
+-- AdmittedLemmas: which clients are admitted, when the lists change
 mod AdmittedLemmas
--- NextLemmas: what is found in the list, as one more of its waiters is looked at
+-- NextLemmas: what is found in the list, when one more of its waiters is looked at
 mod NextLemmas
--- ForgetLemmas: what is left as elements are taken away from a list's end to its start
+-- ForgetLemmas: what is left of a list when elements are taken away from its end to its start
 mod ForgetLemmas
--- RoomLemmas: what fits a list as room is made and elements are put in
+-- RoomLemmas: what fits in a list when room is made and elements are put in
 mod RoomLemmas

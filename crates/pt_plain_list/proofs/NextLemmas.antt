@@ -1,4 +1,4 @@
--- What is found in the list, as one more of its waiters is looked at.
+-- What is found in the list, when one more of its waiters is looked at.
 use Rattle.std.proofs.Common.{◌≡◌, ℕ, ◌+◌, ◌<◌, ◌≤◌, length, get_or, take, ◌==◌, Bool, true, false}
 use Rattle.std.proofs.Common.{cond, ◌&&◌, List, [], ◌∷◌, ◌++◌, Option, Some, filter, refl, sym, ap}
 use Rattle.std.proofs.Common.{◌∙◌, arith}

@@ -1,4 +1,4 @@
--- What fits a list as room is made and elements are put in.
+-- What fits in a list when room is made and elements are put in.
 use Rattle.std.proofs.Common.{◌≡◌, ℕ, ◌+◌, ◌<◌, ◌≤◌, false, arith}
 use Rattle.std.specs.Prelude.{Result, Ok, Err, OnOk}
 use Rattle.std.specs.Result.{is_err}
@@ -11,7 +11,7 @@ room-wider a a' b b' room room' e f le h = omega arith
 pub room-same : (a a' b b' room : ℕ) → a' ≡ a → b' ≡ b → a + b ≤ room → a' + b' ≤ room
 room-same a a' b b' room e f h = omega arith
 
--- one is put in where room was made for it and for those beside it
+-- an element is put in, if room was made for it and for those beside it
 pub room-pushed : (a n b b' more room room' : ℕ) → a + (n + 1) ≤ room → n ≡ b → b' ≡ b
     → more ≡ a + 1 → room' ≡ room → more + b' ≤ room'
 room-pushed a n b b' more room room' h e f m r = omega arith

@@ -1,4 +1,4 @@
--- Opens: the open calls in order of their places, and what a Trip says to each.
+-- Opens: the open calls in order of their places, and what a Trip answers to each.
 use Rattle.std.proofs.Common.{◌≡◌, ℕ, suc, ◌+◌, ◌-◌, ◌<◌, ◌≤◌, Bool, true, false, ◌&&◌, ◌||◌, cond}
 use Rattle.std.proofs.Common.{ltb, List, [], ◌∷◌, ◌++◌, length, Option, Some, None, is_some}
 use Rattle.std.proofs.Common.{is_none, refl, ap, ◌∙◌, arith, filter, inl, inr}
@@ -65,7 +65,7 @@ open-within es =
     Each-weaker (λ w. w.place < place (history es)) (λ w. w.place < length es)
     (λ w lt. omega (arith, place_all es)) (open_calls (history es)) (open-below (history es))
 
--- what is found at a place is found
+-- a call that is found at a place is among the open calls
 pub open-found :
     (es : List Entry) (p q : WaitingCall → Bool) (i : ℕ)
     → passes (λ w. q w && p w) (at_place i (open_calls (history es))) ≡ true
@@ -74,7 +74,7 @@ open-found es p q i e =
     any-filter p q (open_calls (history es))
     ∙ any-at (λ w. q w && p w) i (open_calls (history es)) e
 
--- what is found at no place is nowhere
+-- a call that is found at no place is not among them
 pub open-nowhere :
     (es : List Entry) (p q : WaitingCall → Bool) (n : ℕ) → length es ≤ n
     → ((k : ℕ) → k < n → passes (λ w. q w && p w) (at_place k (open_calls (history es))) ≡ false)
@@ -84,7 +84,7 @@ open-nowhere es p q n le f =
     ∙ any-nowhere (λ w. q w && p w) 0 (length es) (open_calls (history es))
     (open-ascends (history es)) (open-within es) (λ k lt. f k (omega arith))
 
--- one call before the last ones
+-- the open calls from one place earlier on
 pub open_from_less :
     (h : History) (i : ℕ) → 0 < i
     → from (i - 1) (open_calls h)
@@ -94,11 +94,11 @@ open_from_less h i lt =
     from_more (i - 1) 0 (open_calls h) (open-ascends h)
     ∙ ap (λ k. listed (at_place (i - 1) (open_calls h)) ++ from k (open_calls h)) e
 
--- all of them
+-- all of them, from place 0 on
 pub open_from_none : (h : History) → from 0 (open_calls h) ≡ open_calls h
 open_from_none h = from-before 0 0 (open_calls h) (open-ascends h) (omega arith)
 
--- none of them
+-- none of them, from the end on
 pub open_from_all : (es : List Entry) → from (length es) (open_calls (history es)) ≡ []
 open_from_all es = from_all (length es) (open_calls (history es)) (open-within es)
 
@@ -108,7 +108,7 @@ place_of-listed :
 place_of-listed None ws c = refl
 place_of-listed (Some w) ws c = refl
 
--- a client's call among one more
+-- the place of a client's call, from one place earlier on
 pub place_of-less :
     (h : History) (i c : ℕ) → 0 < i
     → place_of (from (i - 1) (open_calls h)) c
@@ -117,7 +117,7 @@ place_of-less h i c lt =
     ap (λ ws. place_of ws c) (open_from_less h i lt)
     ∙ place_of-listed (at_place (i - 1) (open_calls h)) (from i (open_calls h)) c
 
--- what a Trip says to a call, if it stands at the barrier: whether a later one does decides
+-- what a Trip answers to a call, if it waits at the barrier: SERIAL, unless a later one waits there
 abbrev pub said : (present later : Bool) → Option Outcome
 said false later = None
 said true true = Some Done
@@ -164,7 +164,7 @@ present j q n ws a = ap is_some (at_place-filter q j n ws a) ∙ go (at_place j 
         pick true = refl
         pick false = refl
 
--- whether a call without an answer stands at the barrier
+-- whether a call without an answer waits at the barrier
 waiting :
     (h : History) (b j : ℕ)
     → passes (λ w. is_arrival w.role && (w.object == b)) (at_place j (open_calls h))
@@ -192,7 +192,7 @@ waiting h b j =
         (at_place-place j (stood h) w e)
         ∙ swap (is_arrival w.role && (w.object == b)) (is_none (outcome h j)) (is_alive h w.client)
 
--- what a Trip says to the call at a place
+-- what a Trip answers to the call at a place
 pub trip_said :
     (h : History) (b j : ℕ)
     → outcome_in (told_by_trip (at_barrier b (open_calls h))) j
@@ -216,7 +216,7 @@ not-any p (w ∷ ws) = go (p w) (not-any p ws)
     go true ih = refl
     go false ih = ih
 
--- a test that all fail, where one is found
+-- not all calls fail a test if one that passes is found
 pub all-found :
     (es : List Entry) (p q : WaitingCall → Bool) (i : ℕ)
     → passes (λ w. q w && p w) (at_place i (open_calls (history es))) ≡ true
@@ -224,7 +224,7 @@ pub all-found :
 all-found es p q i e =
     not-any p (filter q (open_calls (history es))) ∙ ap not (open-found es p q i e)
 
--- a test that all fail, where none is found
+-- all calls fail a test if none that passes is found
 pub all-nowhere :
     (es : List Entry) (p q : WaitingCall → Bool) (n : ℕ) → length es ≤ n
     → ((k : ℕ) → k < n → passes (λ w. q w && p w) (at_place k (open_calls (history es))) ≡ false)

@@ -22,7 +22,7 @@ pub record IsOrder (lt : WaitingCall → WaitingCall → Bool) : Type 0 where
   pub across : (a b c : WaitingCall) → lt a c ≡ true → lt a b ≡ false → lt b c ≡ true
   pub total : (a b : WaitingCall) → lt a b ≡ false → lt b a ≡ false → a.place ≡ b.place
 
--- whether one is before a call is answered by the least alone
+-- whether any call is before this one is decided by the least alone
 pub least-any :
     (lt : WaitingCall → WaitingCall → Bool) → IsOrder lt → (w : WaitingCall) (ws : List WaitingCall)
     → list_any (λ v. lt v w) ws ≡ passes (λ v. lt v w) (least lt ws)
@@ -58,7 +58,7 @@ least-any lt o w (x ∷ xs) =
     go None = or_false (lt x w)
     go (Some y) = pick y (lt y x) refl
 
--- the least is one of them
+-- the least is found at its place
 pub least-at :
     (lt : WaitingCall → WaitingCall → Bool) (n : ℕ) (ws : List WaitingCall) → Ascends n ws
     → (m : WaitingCall) → least lt ws ≡ Some m → at_place m.place ws ≡ Some m
@@ -91,7 +91,7 @@ least-at lt n (x ∷ xs) a m e =
     go None eq k ih = let same : m ≡ x = cc in here same
     go (Some y) eq k ih = pick y (lt y x) (ih y eq) k
 
--- of none there is no least, and else there is one
+-- any list that isn't empty has a least
 pub least-some :
     (lt : WaitingCall → WaitingCall → Bool) (x : WaitingCall) (xs : List WaitingCall)
     → least lt (x ∷ xs) ≡ None → ⊥
@@ -105,7 +105,7 @@ least-some lt x xs e = go (least lt xs) e
     go None k = cc
     go (Some y) k = pick y (lt y x) k
 
--- whether a call is the least: none is before it
+-- a call is the least if none is before it
 pub least-is :
     (lt : WaitingCall → WaitingCall → Bool) → IsOrder lt → (n : ℕ) (ws : List WaitingCall)
     → Ascends n ws
@@ -217,7 +217,7 @@ arrival-place : (m : Option Move) (j : ℕ) → (arrival_by m j).1 ≡ j
 arrival-place None j = refl
 arrival-place (Some v) j = refl
 
--- the calls' own order is one
+-- the order in which calls precede each other is such an order
 pub precedes-order : (moves : ℕ → Option Move) → IsOrder (precedes_by moves)
 precedes-order moves =
     record {

@@ -1,4 +1,4 @@
--- Stood: the calls left waiting are in order of their places, and each entry leaves one at most.
+-- Stood: the calls left waiting are in order of their places, and each entry leaves at most one.
 use Rattle.std.proofs.Common.{◌≡◌, ℕ, suc, ◌<◌, ◌≤◌, List, [], ◌∷◌, ◌++◌, length, get_or, take}
 use Rattle.std.proofs.Common.{drop, Option, Some, None, refl, sym, ap, ◌∙◌, arith, subst}
 use Rattle.std.proofs.lemmas.Bool.{eq-eqb}
@@ -20,7 +20,7 @@ use Rattle.pt_readings.proofs.Past.{place_all, place_below, onto-append}
 use Rattle.std.proofs.lemmas.List.{append-nil}
 use Rattle.std.proofs.Math.Seq.{split_at}
 
--- none, or one with this place
+-- no call, or one with this place
 pub data IsNewest (n : ℕ) : List WaitingCall → Type 0 where
   none : IsNewest n []
   one : (w : WaitingCall) → w.place ≡ n → IsNewest n (w ∷ [])
@@ -38,7 +38,7 @@ IsNewest-operation h c z (Rwunlocks n) = none
 IsNewest-operation h c z (Signals n) = none
 IsNewest-operation h c z (Broadcasts n) = none
 
--- an entry leaves one at most, with its own place
+-- an entry leaves at most one, with its own place
 pub newest : (h : History) (e : Entry) → IsNewest (place h) (stood_by h e)
 newest h (Call c call None) = IsNewest-operation h c (clock_of call) (operation call)
 newest h (Call c call (Some x)) = none
@@ -76,7 +76,7 @@ pub newest-other :
 newest-other n j none lt = refl
 newest-other n j (one w e) lt = at_place-before j n (w ∷ []) (omega (arith, e), tt) lt
 
--- later entries leave what came before
+-- later entries leave the calls of earlier ones unchanged
 pub at_place-onto :
     (h : History) (es : List Entry) (j : ℕ) → j < place h
     → at_place j (stood (onto h es)) ≡ at_place j (stood h)

@@ -49,7 +49,7 @@ none : (x : Bool) → false ≡ (x && false)
 none true = refl
 none false = refl
 
--- a test of the wait at a place that stands at the condition still
+-- a test of the wait at a place, if it still waits at the condition
 still :
     (h : History) (moves : ℕ → Option Move) (n : List ℕ) (j : ℕ) (t : WaitingCall → Bool)
     → passes t (at_place j (cond_waits h moves n))
@@ -78,7 +78,7 @@ passes-same :
 passes-same p q f None = refl
 passes-same p q f (Some w) = f w
 
--- a broadcast moves the waits that stand at the condition still
+-- a broadcast moves the waits that still wait at the condition
 pub waiting_is :
     (h : History) (moves : ℕ → Option Move) (n : List ℕ) (j : ℕ)
     → has_place (cond_waits h moves n) j

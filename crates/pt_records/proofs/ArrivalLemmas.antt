@@ -34,7 +34,7 @@ none-to k n [] f = refl
 none-to k n (v ∷ vs) f =
     rw (ne_eqb v.place n (f v (inl refl))) (omega (arith, none-to k n vs (λ u i e. f u (inr i) e)))
 
--- in a list in order of places no two calls have one place
+-- in a list in order of places, no two calls have the same place
 pub ascends-late : (n : ℕ) (ws : List WaitingCall) (w : WaitingCall) → Ascends n ws → In w ws
     → n ≤ w.place
 ascends-late n [] w a i = absurd i
@@ -90,7 +90,7 @@ once-rest v vs once c = go (v.client == c) (once c)
     go false le = le
 
 module _ (h : History) (b k n : ℕ) where
-  -- no two waiters at a barrier are those of calls with one place
+  -- no two waiters at a barrier belong to calls with the same place
   pub arrivals-lone : (vs : List Waiter) → ((c : ℕ) → length (of_client c vs) ≤ 1)
       → ((v : Waiter) → In v vs
       → (w : WaitingCall) × (In w (at_barrier b (open_calls h)) × WaitsAs w v))

@@ -1,4 +1,5 @@
--- Read-write locks: nobody has more than 255 read locks, and whoever is granted one can have it.
+-- No client has more than 255 read locks at a read-write lock, and one that is granted a lock can
+-- have it.
 use Rattle.std.proofs.Common.{◌≡◌, ℕ, suc, ◌<◌, ◌≤◌, ◌⊎◌, inl, inr, Bool, true, false, cond, not}
 use Rattle.std.proofs.Common.{◌&&◌, ◌||◌, ◌==◌, nat_lt, nat_le, List, Option, Some, None, is_some}
 use Rattle.std.proofs.Common.{is_none, unwrap_or, refl, sym, ap, ◌∙◌, subst, arith}
@@ -56,7 +57,7 @@ use Rattle.pt_model.proofs.Opens.{open-sealed, left, was_open, open-grant}
 use Rattle.pt_model.proofs.OneEach.{one_each}
 use Rattle.pt_model.proofs.Rwlocks.{reads-grant, writes-writer}
 
--- nobody has more than 255 read locks on a lock, nor so many while it waits to read there
+-- no client has more than 255 read locks on a lock, and one that waits to read there has fewer
 pub record ReadsBound (h : History) : Type 0 where
   pub most : (r c : ℕ) → reads h r c ≤ most_reads
   pub room : (w : WaitingCall) → In w (open_calls h) → w.role ≡ ForRead
@@ -82,7 +83,7 @@ read_allowed h c how (Some r) e =
     go x u false true p f y e = absurd cc
     go x u false false p f y e = refl
 
--- the same of the call that an operation leaves waiting
+-- the same for the call that an operation leaves waiting
 read_left : (h : History) (c : ℕ) (k : Clock) (d : Operation)
     → reply (operation_verdict h c d) ≡ None
     → (w : WaitingCall) → In w (stood_by_operation h c k d) → w.role ≡ ForRead
@@ -114,14 +115,14 @@ read_left h c k (Rwunlocks n) e w i r = absurd i
 read_left h c k (Signals n) e w i r = absurd i
 read_left h c k (Broadcasts n) e w i r = absurd i
 
--- and of the one that a call does
+-- the same for the call that a call leaves waiting
 read_new : (h : History) (c : ℕ) (call : Asked) (x : Option Outcome) → reply (verdict h c call) ≡ x
     → (w : WaitingCall) → In w (stood_by h (Call c call x)) → w.role ≡ ForRead
     → reads h w.object w.client < most_reads
 read_new h c call None e w i r = read_left h c (clock_of call) (operation call) e w i r
 read_new h c call (Some x) e w i r = absurd i
 
--- an entry that grants no read lock keeps the bounds
+-- an entry that grants no read lock preserves the bounds
 no_more : (h : History) (e : Entry) → Follows h → ReadsBound h → Step h e
     → ((r c : ℕ) → reads (h ▷ e) r c ≤ reads h r c)
     → ((w : WaitingCall) → In w (left h e) → w.role ≡ ForRead
@@ -144,13 +145,13 @@ no_more h e f b s less new =
     old w r (inl i) = b.room w i r
     old w r (inr i) = new w i r
 
--- what a call gives back leaves no more than there was
+-- after a read lock is given back, there are no more than before
 given_less : (b w : Bool) (n : ℕ) → cond b (read_given_back w n) n ≤ n
 given_less true true n = omega arith
 given_less true false n = omega arith
 given_less false w n = omega arith
 
--- whether a role is for reading there, where it isn't there
+-- a call for which the test fails does not read there
 there_false : (role : Role) (a b : Bool) → b ≡ false → reads_there role (a && b) ≡ false
 there_false ForRead true b e = e
 there_false ForRead false b e = refl
@@ -159,7 +160,7 @@ there_false ForWrite a b e = refl
 there_false ForBarrier a b e = refl
 there_false (ForCond m) a b e = refl
 
--- a grant adds a read lock only for a call that has room
+-- a Grant adds a read lock only for a call that has room
 granted_most : (h : History) (v : WaitingCall) (r c : ℕ) → ReadsBound h → In v (open_calls h)
     → (role : Role) → v.role ≡ role
     → cond (reads_there role ((v.object == r) && (v.client == c))) (suc (reads h r c)) (reads h r c)
@@ -179,7 +180,7 @@ granted_most h v r c b i ForWrite e = b.most r c
 granted_most h v r c b i ForBarrier e = b.most r c
 granted_most h v r c b i (ForCond m) e = b.most r c
 
--- each entry keeps the bounds
+-- each entry preserves the bounds
 pub ReadsBound-step : (h : History) (e : Entry) → Follows h → ReadsBound h → Step h e
     → ReadsBound (h ▷ e)
 ReadsBound-step h _ f b (joins p n lt) =
@@ -243,7 +244,7 @@ kept-less : (b : Bool) (n m : ℕ) → n < m → cond b n 0 < m
 kept-less true n m lt = lt
 kept-less false n m lt = omega (arith, lt)
 
--- so they hold of each history
+-- so they hold for each history
 pub ReadsBound-follows : (h : History) → Follows h → ReadsBound h
 ReadsBound-follows h f =
     by_steps ReadsBound
@@ -255,17 +256,17 @@ ReadsBound-follows h f =
           (b.room w (open-sealed h w i) r);
     }) h f
 
--- whoever waits to read has room for one more
+-- a client that waits to read has room for one more read lock
 pub read-room : (h : History) → Follows h → (w : WaitingCall) → In w (open_calls h)
     → w.role ≡ ForRead → reads h w.object w.client < most_reads
 read-room h f w i r = (ReadsBound-follows h f).room w i r
 
--- what isn't there is none
+-- an option that is not some is none
 unsome : (o : Option ℕ) → not (is_some o) ≡ true → is_none o ≡ true
 unsome None e = refl
 unsome (Some x) e = absurd cc
 
--- where a reader may be granted the lock, nobody writes there
+-- if a reader may be granted a lock, nobody holds it for writing
 pub read-can : (h : History) (w : WaitingCall) → is_grantable h w ≡ true → w.role ≡ ForRead
     → is_none (writer h w.object) ≡ true
 read-can h w g r =
@@ -274,7 +275,7 @@ read-can h w g r =
     unsome (writer h w.object) (and_parts (not (is_some (writer h w.object)))
     (not (is_blocked h w.object w.priority) || nat_lt 0 (reads h w.object w.client)) may).0
 
--- where a writer may be, nobody holds it
+-- if a writer may be granted a lock, nobody holds it
 pub write-can : (h : History) (w : WaitingCall) → is_grantable h w ≡ true → w.role ≡ ForWrite
     → (is_none (writer h w.object) ≡ true) × (is_none (reader h w.object) ≡ true)
 write-can h w g r =
@@ -285,7 +286,7 @@ write-can h w g r =
     (and_parts (is_free (rwlock_view h w.object w.client)) (is_least h w) may).0 in
     (unsome (writer h w.object) free.0, unsome (reader h w.object) free.1)
 
--- rows that keep each client's read locks have one exactly if there is a reader
+-- rows that store each client's read locks have one exactly if there is a reader
 pub read-by : (h : History) → Follows h → (o : ℕ) (r : RwlockState)
     → ((c : ℕ) → reads_of r c ≡ reads h o c) → is_read r ≡ is_some (reader h o)
 read-by h f o r same = go (is_read r) (reader h o) refl refl
@@ -308,7 +309,7 @@ read-by h f o r same = go (is_read r) (reader h o) refl refl
     go false None eb ex = refl
     go false (Some c) eb ex = sym eb ∙ none c ex
 
--- nobody holds a lock that is stored so if it has neither a writer nor a reader
+-- nobody holds a lock that is stored in this way if it has neither a writer nor a reader
 pub nobody-holds : (h : History) → Follows h → (o : ℕ) (r : RwlockState) → r.writer ≡ writer h o
     → ((c : ℕ) → reads_of r c ≡ reads h o c) → is_none (writer h o) ≡ true
     → is_none (reader h o) ≡ true → nobody_holds r ≡ true
@@ -321,7 +322,7 @@ nobody-holds h f o r w same a b =
     unsaid None e = refl
     unsaid (Some d) e = absurd cc
 
--- the writer is whoever writes
+-- a client is the writer exactly if it holds the lock for writing
 pub writes-by : (h : History) → Follows h → (o c : ℕ) → is_number (writer h o) c ≡ writes h o c
 writes-by h f o c = go (writes h o c) (writer h o) refl refl
   where
@@ -339,7 +340,7 @@ writes-by h f o c = go (writes h o c) (writer h o) refl refl
             sym own ∙ (ap (writes h o) same ∙ eb)
         other false ez = refl
 
--- a lock that is stored so is seen by each client as it is read off the history
+-- each client sees a lock that is stored in this way as it is read off the history
 pub view-by : (h : History) → Follows h → (o : ℕ) (r : RwlockState) → r.writer ≡ writer h o
     → ((c : ℕ) → reads_of r c ≡ reads h o c) → (c : ℕ) → seen_by r c ≡ rwlock_view h o c
 view-by h f o r w same c =

@@ -1,4 +1,4 @@
--- Rows of clients, where what is in the first ones is rewritten, and in one more.
+-- Rows of clients after the values in the first ones are rewritten, and after one more is.
 use Rattle.std.proofs.Common.{◌≡◌, ℕ, zero, suc, ◌+◌, ◌≤◌, Bool, true, false, cond, nat_eq, List}
 use Rattle.std.proofs.Common.{[], ◌∷◌, map, length, Option, Some, None, option_map, refl, sym, ap}
 use Rattle.std.proofs.Common.{◌∙◌, arith}
@@ -12,11 +12,11 @@ use Rattle.pt_records.proofs.RowLemmas.{Apart, Apart-map, length-map, value-map}
 use Rattle.pt_records.proofs.CallerWrites.{number_in, value_in, apart-once, once-apart}
 
 module _ (g : Caller → Caller) where
-  -- g changes what is in a row
+  -- g changes the value in a row
   abbrev rewritten : ClientRow Caller → ClientRow Caller
   rewritten row = record row { value = g row.value }
 
-  -- it changed what is in the first rows
+  -- g has changed the values in the first rows
   abbrev pub rewritten_first : List (ClientRow Caller) → ℕ → List (ClientRow Caller)
   rewritten_first [] i = []
   rewritten_first (row ∷ rows) zero = row ∷ rows
@@ -61,7 +61,7 @@ module _ (g : Caller → Caller) where
   first-once rows i once =
       once-apart (rewritten_first rows i) (first-apart rows i (apart-once rows once))
 
-  -- it changed all of them
+  -- g has changed the values in all rows
   first-all : (rows : List (ClientRow Caller)) (i : ℕ) → length rows ≤ i
       → rewritten_first rows i ≡ map rewritten rows
   first-all [] i e = refl
@@ -82,7 +82,7 @@ module _ (g : Caller → Caller) where
       → RewritesCallers rows (rewritten_first rows i) g
   rewrites-all rows i e = rw (first-all rows i e) (rewrites-map rows)
 
-  -- the row at an index where g changes nothing, or where there is none
+  -- rewriting the row at an index changes nothing if there is none, or g changes nothing there
   pub nth-none : (rows : List (ClientRow Caller)) (i : ℕ) → nth_value rows i ≡ None
       → rewritten_nth g rows i ≡ rows
   nth-none [] i e = refl
@@ -97,7 +97,7 @@ module _ (g : Caller → Caller) where
       ap (λ w. record row { value = w } ∷ rows) (ap g is ∙ same ∙ sym is)
   nth-same (row ∷ rows) (suc i) v e same = ap (λ rs. row ∷ rs) (nth-same rows i v e same)
 
--- a write by a number that isn't there changes nothing
+-- a write by a number that no row has changes nothing
 pub with-none : (rows : List (ClientRow Caller)) (n : ℕ) (w : Caller) → client_at rows n ≡ None
     → with_client rows n w ≡ rows
 with-none [] n w e = refl
@@ -109,7 +109,7 @@ with-none (row ∷ rows) n w e = go (with-none rows n w) (nat_eq n row.number) e
     go ih true e = cc
     go ih false e = ap (λ rs. row ∷ rs) (ih e)
 
--- a number that is at an index is found there
+-- a number that is at an index is found
 nth-there : (rows : List (ClientRow Caller)) (i n : ℕ) → nth_number rows i ≡ Some n
     → client_at rows n ≡ None → ⊥
 nth-there [] i n e none = cc
@@ -125,7 +125,7 @@ nth-there (row ∷ rows) (suc i) n e none =
     go ih true e = cc
     go ih false e = ih e
 
--- so the number at an index after the first row is another than the first one's
+-- so the number at an index after the first row differs from the first row's number
 nth-apart : (row : ClientRow Caller) (rows : List (ClientRow Caller)) (i n : ℕ)
     → client_at rows row.number ≡ None → nth_number rows i ≡ Some n → nat_eq n row.number ≡ false
 nth-apart row rows i n none e = go (nat_eq n row.number) refl
@@ -136,7 +136,7 @@ nth-apart row rows i n none e = go (nat_eq n row.number) refl
         absurd (nth-there rows i n e (ap (client_at rows) same ∙ none))
     go false t = refl
 
--- what is found by the number at an index is what is there
+-- what is found by the number at an index is the value at that index
 pub nth-found : (rows : List (ClientRow Caller)) (i n : ℕ) → Apart number_in rows
     → nth_number rows i ≡ Some n → client_value rows n ≡ nth_value rows i
 nth-found [] i n a e = cc
@@ -148,7 +148,7 @@ nth-found (row ∷ rows) (suc i) n a e =
     ap (λ b. option_map value_in (cond b (Some row) (client_at rows n)))
     (nth-apart row rows i n a.0 e) ∙ nth-found rows i n a.1 e
 
--- a write by the number at an index is one at the index
+-- a write by the number at an index is a write at the index
 nth-with : (g : Caller → Caller) (rows : List (ClientRow Caller)) (i n : ℕ) (v : Caller)
     → Apart number_in rows → nth_number rows i ≡ Some n → nth_value rows i ≡ Some v
     → with_client rows n (g v) ≡ rewritten_nth g rows i
@@ -166,7 +166,7 @@ nth-with g (row ∷ rows) (suc i) n v a e is =
     (nth-apart row rows i n a.0 e)
     ∙ ap (λ rs. row ∷ rs) (nth-with g rows i n v a.1 e is)
 
--- the same by a change of what was found there, which is what g gives there
+-- the same for a change of the value that was found there, if g makes the same change
 pub nth-written : (g f : Caller → Caller) (rows : List (ClientRow Caller)) (i n : ℕ) (v u : Caller)
     → Once rows → nth_number rows i ≡ Some n → nth_value rows i ≡ Some v
     → Some u ≡ client_value rows n → g v ≡ f v
@@ -185,7 +185,7 @@ nth-absent rows i n v once e is none =
     let there = none ∙ nth-found rows i n (apart-once rows once) e ∙ is in
     absurd cc
 
--- what g gives, by its test
+-- what g returns, by its test
 pub by-true : (b : Bool) (u v : Caller) → b ≡ true → cond b u v ≡ u
 by-true b u v e = ap (λ b. cond b u v) e
 

@@ -1,4 +1,4 @@
--- Rows of clients after one is written, added or taken out.
+-- Rows of clients after one is written, added or removed.
 use Rattle.std.proofs.Common.{◌≡◌, ℕ, Bool, true, false, cond, ◌==◌, ◌||◌, nat_eq, List, [], ◌∷◌}
 use Rattle.std.proofs.Common.{Option, Some, None, is_some, option_map, refl, sym, ap, subst, ◌∙◌}
 use Rattle.std.proofs.Common.{arith, inl, inr}
@@ -21,7 +21,7 @@ number_in row = row.number
 abbrev pub value_in : ClientRow Caller → Caller
 value_in row = row.value
 
--- a number is in no row exactly if none is found
+-- a number is in no row exactly if no row is found by it
 none-any : (rows : List (ClientRow Caller)) (n : ℕ)
     → list_any (λ other. other.number == n) rows ≡ false → client_at rows n ≡ None
 none-any [] n e = refl
@@ -57,7 +57,7 @@ pub once-apart : (rows : List (ClientRow Caller)) → Apart number_in rows → O
 once-apart [] a = tt
 once-apart (r ∷ rows) a = (any-none rows r.number a.0, once-apart rows a.1)
 
--- a client of whom something is stored has a row
+-- a client for which something is stored has a row
 pub client-there : (rows : List (ClientRow Caller)) (c : ℕ) (v : Caller)
     → client_value rows c ≡ Some v → has_client rows c ≡ true
 client-there rows c v e = value-there number_in value_in rows c v e
@@ -76,7 +76,7 @@ writes-caller rows c v has = record {
       (apart-once rows once));
 }
 
--- the same by a change of what was there
+-- the same by a change of the value that was there
 pub writes-by : (f : Caller → Caller) (rows : List (ClientRow Caller)) (c : ℕ) (u : Caller)
     → Some u ≡ client_value rows c → (v : Caller) → client_value rows c ≡ Some v
     → WritesCaller rows (with_client rows c (f u)) c (f v)
@@ -84,7 +84,7 @@ writes-by f rows c u is v e =
     let same : v ≡ u = cc in
     rw same (writes-caller rows c (f u) (client-there rows c v e))
 
--- the row of a client by a change of what was there, and no row at all
+-- a client's row by a change of the value that was there, and no row at all
 pub changes-some : (g : Caller → Caller) (rows : List (ClientRow Caller)) (n c : ℕ) (u : Caller)
     → n ≡ c → Some u ≡ client_value rows n → ChangesCaller rows (with_client rows n (g u)) c g
 changes-some g rows n c u same is =
@@ -118,12 +118,12 @@ changes-none g rows c is =
       | inr ne ↦ rw (ne_eqb c d ne) refl
     ]
 
--- a client has no row where none is found
+-- a client has no row if none is found
 unfound : (o : Option (ClientRow Caller)) → is_some o ≡ false → o ≡ None
 unfound None e = refl
 unfound (Some r) e = cc
 
--- the rows and a new one
+-- the rows with a new one
 pub adds-caller : (rows : List (ClientRow Caller)) (c : ℕ) (v : Caller)
     → has_client rows c ≡ false → AddsCaller rows (and_client rows c v) c v
 adds-caller rows c v has =

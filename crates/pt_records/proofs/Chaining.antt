@@ -21,7 +21,7 @@ use Rattle.pt_records.specs.Writes.{WritesCaller, AddsCaller, RewritesCallers, W
 use Rattle.pt_records.specs.Writes.{AddsObject, RemovesObject, new_object}
 use Rattle.pt_records.proofs.ChainsKept.{chain-stays}
 
--- what passes a test is there
+-- an option that passes a test has a value
 pub passed : {B : Type 0} (test : B → Bool) (o : Option B) → passes test o ≡ true
     → (x : B) × ((o ≡ Some x) × (test x ≡ true))
 passed test None e = cc
@@ -36,7 +36,7 @@ new-owner B kind.Cond = refl
 new-owner B (kind.Barrier count) = refl
 
 module _ {A : Type 0} where
-  -- without a head there is nothing in a chain
+  -- a chain without a head is empty
   pub none-listed : (objects : List (ObjectRow (Object A))) (numbers : List ℕ)
       → IsChain objects None numbers → (m : ℕ) → IsOneOf numbers m → ⊥
   none-listed objects [] l m i = absurd i
@@ -44,7 +44,7 @@ module _ {A : Type 0} where
       let head : ◌≡◌ {A = Option ℕ} None (Some n) = l.0 in
       absurd cc
 
-  -- the same by another test that says the same of each owner
+  -- the same with another test that agrees for each owner
   owned-by : (objects : List (ObjectRow (Object A))) (head : Option ℕ) (test other : ℕ → Bool)
       → ((c : ℕ) → other c ≡ test c) → HasOwned objects head test → HasOwned objects head other
   owned-by objects head test other same h = record {
@@ -60,7 +60,7 @@ module _ {A : Type 0} where
 
   module _ (clients : List (ClientRow Caller)) (old new : List (ObjectRow (Object A)))
       (orphans : Option ℕ) (a : AreChained clients old orphans) where
-    -- where each object has the owner that it had, and the chains stay
+    -- if each object has the same owner as before, and the chains are unchanged
     module _ (k : KeepsChains old new)
         (same : (m : ℕ) → robust_owner_at new m ≡ robust_owner_at old m) where
       owned-kept : (head : Option ℕ) (test : ℕ → Bool) → HasOwned old head test
@@ -81,7 +81,7 @@ module _ {A : Type 0} where
         linked = λ m. k.linked m ∙ a.linked m ∙ sym (ap is_some (same m));
       }
 
-    -- an object is written whose owner is the one that it had
+    -- an object is written whose owner is unchanged
     pub chained-written : (o : ℕ) (x y : Object A) → object_value old o ≡ Some x
         → WritesObject old new o y → robust_owner y ≡ robust_owner x → KeepsChains old new
         → AreChained clients new orphans
@@ -96,7 +96,7 @@ module _ {A : Type 0} where
           | inr s ↦ rw s.0 refl
         ]
 
-    -- an object is added that nobody owns
+    -- an object that nobody owns is added
     pub chained-added : (o : ℕ) (name : List ℕ) (x : Object A) → AddsObject old new o name x
         → robust_owner x ≡ None → AreChained clients new orphans
     chained-added o name x w owner = chained-kept w.chains same
@@ -110,7 +110,7 @@ module _ {A : Type 0} where
           | inr s ↦ rw s.0 refl
         ]
 
-    -- an object is taken out that nobody owns
+    -- an object that nobody owns is removed
     pub chained-removed : (o : ℕ) (x : Object A) → object_value old o ≡ Some x
         → RemovesObject old new o → robust_owner x ≡ None → AreChained clients new orphans
     chained-removed o x there w owner = chained-kept (w.chains free) same
@@ -129,7 +129,7 @@ module _ {A : Type 0} where
 
   module _ (old new : List (ClientRow Caller)) (objects : List (ObjectRow (Object A)))
       (orphans : Option ℕ) (a : AreChained old objects orphans) where
-    -- where the same clients live, and each has the head that it had
+    -- if the same clients live, and each has the same head as before
     module _ (same : (c : ℕ) → option_map (λ (v : Caller). v.owned) (client_value new c)
         ≡ option_map (λ (v : Caller). v.owned) (client_value old c)) where
       owned-of : (c : ℕ) (v : Caller) → client_value new c ≡ Some v
@@ -162,7 +162,7 @@ module _ {A : Type 0} where
         linked = a.linked;
       }
 
-    -- a client's row is written that leaves the head of its chain
+    -- a client's row is written, and the head of its chain is unchanged
     pub chained-caller : (c : ℕ) (u v : Caller) → client_value old c ≡ Some u
         → WritesCaller old new c v → v.owned ≡ u.owned → AreChained new objects orphans
     chained-caller c u v there w owned = chained-callers same
@@ -177,20 +177,20 @@ module _ {A : Type 0} where
           | inr s ↦ rw s.0 refl
         ]
 
-    -- a change that leaves the heads of chains
+    -- a change that leaves the heads of chains unchanged
     kept-by : (g : Caller → Caller) → ((v : Caller) → (g v).owned ≡ v.owned) → (o : Option Caller)
         → option_map (λ (x : Caller). x.owned) (option_map g o)
         ≡ option_map (λ (x : Caller). x.owned) o
     kept-by g keeps None = refl
     kept-by g keeps (Some v) = ap Some (keeps v)
 
-    -- all rows are changed so
+    -- all rows are changed in this way
     pub chained-rewritten : (g : Caller → Caller) → ((v : Caller) → (g v).owned ≡ v.owned)
         → RewritesCallers old new g → AreChained new objects orphans
     chained-rewritten g keeps w = chained-callers (λ c.
         ap (option_map (λ (x : Caller). x.owned)) (w.look c) ∙ kept-by g keeps (client_value old c))
 
-  -- without orphans each owner of a robust mutex lives
+  -- without orphans, each owner of a robust mutex lives
   module _ (old new : List (ClientRow Caller)) (objects : List (ObjectRow (Object A)))
       (a : AreChained old objects None) where
     pub owner-lives : (m c : ℕ) → robust_owner_at objects m ≡ Some c
@@ -199,7 +199,7 @@ module _ {A : Type 0} where
         none-listed objects a.dead.numbers a.dead.chain m
         (a.dead.whole m (ap (passes (is_gone old)) e ∙ ap is_none none))
 
-    -- a client joins that owns nothing
+    -- a client that owns nothing joins
     pub chained-joined : (c : ℕ) (v : Caller) → AddsCaller old new c v → client_value old c ≡ None
         → v.owned ≡ None → AreChained new objects None
     chained-joined c v w none owned =

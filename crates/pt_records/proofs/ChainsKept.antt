@@ -1,4 +1,4 @@
--- Chains of objects, as a row is written, added or taken out.
+-- Chains of objects as a row is written, added or removed.
 use Rattle.std.proofs.Common.{◌≡◌, ◌∙◌, ℕ, Bool, true, false, cond, nat_eq, List, Option, Some}
 use Rattle.std.proofs.Common.{None, refl, sym, ap, true≢false, inl, inr, arith}
 use Rattle.std.specs.Option.{option_map}
@@ -15,7 +15,7 @@ use Rattle.pt_records.proofs.RowLemmas.{row-without}
 use Rattle.pt_records.proofs.ObjectWrites.{number_in}
 
 module _ {A : Type 0} where
-  -- chains stay where the rows that are in one stay where they are
+  -- chains are unchanged if the rows that are in one keep their links
   pub chain-stays : (old new : List (ObjectRow (Object A))) → KeepsChains old new
       → (head : Option ℕ) (numbers : List ℕ) → IsChain old head numbers
       → IsChain new head numbers
@@ -23,7 +23,7 @@ module _ {A : Type 0} where
       chain-kept old new head numbers
       (λ m i. k.links m (chain-linked old head numbers l m i)) l
 
-  -- a written value leaves all chains
+  -- writing a value leaves all chains unchanged
   pub keeps-written : (rows : List (ObjectRow (Object A))) (o : ℕ) (x : Object A)
       → KeepsChains rows (with_object rows o x)
   keeps-written rows o x = record {
@@ -31,7 +31,7 @@ module _ {A : Type 0} where
     links = λ m e. link-valued rows o x m;
   }
 
-  -- rows that are linked differ from one that isn't
+  -- a row that is linked differs from one that is not
   apart : (rows : List (ObjectRow (Object A))) (o m : ℕ) → is_linked rows o ≡ false
       → is_linked rows m ≡ true → nat_eq m o ≡ false
   apart rows o m free e = elim (eqb_tells m o) [
@@ -60,11 +60,11 @@ module _ {A : Type 0} where
         | inr s ↦ rw s.0 refl
       ]
 
-  -- the link of a row that is found
+  -- whether a row that is found is linked
   abbrev link_in : Option (ObjectRow (Object A)) → Bool
   link_in row = linked_by (option_map (λ (r : ObjectRow (Object A)). r.link) row)
 
-  -- a row that is taken out was in no chain
+  -- a row that is removed was in no chain
   pub keeps-removed : (rows : List (ObjectRow (Object A))) (o : ℕ) → is_linked rows o ≡ false
       → KeepsChains rows (without_object rows o)
   keeps-removed rows o free =

@@ -31,13 +31,13 @@ use Rattle.pt_records.specs.declared.objects.Object.TheVariants.{Rwlock}
 use Rattle.pt_records.specs.Objects.{IsRwlock, AreObjects}
 use Rattle.pt_records.proofs.OpenRows.{row-look, look-row}
 
--- tests that pass alike are the same
+-- tests that pass alike are equal
 bool_same : (a b : Bool) → (a ≡ true → b ≡ true) → (b ≡ true → a ≡ true) → a ≡ b
 bool_same true b f g = sym (f refl)
 bool_same false true f g = g refl
 bool_same false false f g = refl
 
--- the number of some row passes
+-- some row's number passes
 pub number-at : (t : ℕ → Bool) (rows : List (ClientRow Caller)) (i : ℕ)
     → passes t (nth_number rows i) ≡ true → list_any (λ row. t row.number) rows ≡ true
 number-at t [] i e = cc
@@ -49,7 +49,7 @@ number-at t (x ∷ rows) (suc i) e = go (t x.number) (number-at t rows i e)
     go true ih = refl
     go false ih = ih
 
--- the number of no row passes
+-- no row's number passes
 pub number-nowhere : (t : ℕ → Bool) (rows : List (ClientRow Caller))
     → ((k : ℕ) → k < length rows → passes t (nth_number rows k) ≡ false)
     → list_any (λ row. t row.number) rows ≡ false
@@ -58,17 +58,17 @@ number-nowhere t (x ∷ rows) f =
     let here : t x.number ≡ false = f 0 (omega arith) in
     rw here (number-nowhere t rows (λ k lt. f (suc k) (omega arith)))
 
--- what is there
+-- the value of an option that has one
 some_of : {X : Type 0} (o : Option X) → is_some o ≡ true → (x : X) × (o ≡ Some x)
 some_of None e = absurd cc
 some_of (Some x) e = (x, refl)
 
--- a number that is found is the one
+-- an option that is this number has it as its value
 number_is : (o : Option ℕ) (c : ℕ) → is_number o c ≡ true → o ≡ Some c
 number_is None c e = absurd cc
 number_is (Some m) c e = ap Some (grind (arith, nat_tests))
 
--- the writer is the client that writes, and no other
+-- the writer is the client that holds the lock for writing, and no other
 pub writes-number : (h : History) → Follows h → (r c : ℕ) → is_number (writer h r) c ≡ writes h r c
 writes-number h f r c = bool_same (is_number (writer h r) c) (writes h r c) there back
   where
@@ -81,7 +81,7 @@ writes-number h f r c = bool_same (is_number (writer h r) c) (writes h r c) ther
         let same : (c == c) ≡ true = grind (arith, nat_tests) in
         ap (λ o. is_number o c) (writes-writer h f r c e) ∙ same
 
--- a client holds the lock that is stored where it holds the one of the history
+-- a client holds the stored lock exactly if it holds the lock of the history
 pub holds-kept : (h : History) (r c : ℕ) (lock : RwlockState) → Follows h → IsRwlock h r lock
     → holds (seen_by lock c) ≡ holds (rwlock_view h r c)
 holds-kept h r c lock f kept =
@@ -89,7 +89,7 @@ holds-kept h r c lock f kept =
     ∙ ap (λ b. b || nat_lt 0 (reads_of lock c)) (writes-number h f r c)
     ∙ ap (λ n. writes h r c || nat_lt 0 n) (kept.reads c)
 
--- a client with a row lives
+-- a client that has a row lives
 pub alive-row : (h : History) (rows : List (ClientRow Caller)) → AreCallers h rows
     → (row : ClientRow Caller) → In row rows → is_alive h row.number ≡ true
 alive-row h rows a row i =
@@ -107,7 +107,7 @@ row-alive h rows a c e = go (client_value rows c) refl (ap is_some (a.look.livin
     go None k e = absurd cc
     go (Some v) k e = let found = look-row rows c v k in (found.0, (found.1.0, found.1.1))
 
--- a lock is held by a client with a row where a living client holds it
+-- some client with a row holds the lock exactly if a living client does
 pub held : (h : History) (rows : List (ClientRow Caller)) (r : ℕ) (lock : RwlockState) → Follows h
     → AreCallers h rows → IsRwlock h r lock
     → list_any (λ row. holds (seen_by lock row.number)) rows ≡ is_held_alive h r
@@ -138,7 +138,7 @@ held h rows r lock f a kept =
         in-any (λ (u : ClientRow Caller). holds (seen_by lock u.number)) rows row.0 row.1.0
         (ap (λ d. holds (seen_by lock d)) row.1.1 ∙ holds-kept h r c lock f kept ∙ both.1)
 
--- a lock that a row keeps is the one of the history
+-- a lock that is stored in a row is the lock of the history
 pub lock-kept : {A : Type 0} (h : History) (objects : List (ObjectRow (Object A)))
     → AreObjects h objects → (o n : ℕ) → n ≡ o → (kept : Object A) (lock : RwlockState)
     → Some kept ≡ object_value objects n → kept ≡ Rwlock lock → IsRwlock h o lock

@@ -29,14 +29,14 @@ use Rattle.pt_records.proofs.ChainsKept.{chain-stays}
 use Rattle.pt_records.proofs.Chaining.{passed, chained-written}
 use Rattle.pt_records.proofs.Owning.{Owned, chained-entered, chained-left, chained-yielded}
 
--- the owner, before and after
+-- the owner before and after
 free-owner : (robust : Bool) (owner : Option ℕ) → (robust && is_none owner) ≡ true
     → cond robust owner None ≡ None
 free-owner true None e = refl
 free-owner true (Some c) e = cc
 free-owner false owner e = refl
 
--- who locks a robust mutex that isn't free owns it already
+-- a client that locks a robust mutex that is not free owns it already
 pub again-owner : (robust : Bool) (owner : Option ℕ) (c : ℕ) (b : Bool)
     → (robust && is_none owner) ≡ false → IsTrue (is_none owner || (is_number owner c && b))
     → cond robust (Some c) None ≡ cond robust owner None
@@ -49,7 +49,7 @@ again-owner true (Some d) c b e can = go (eqb_tells d c) can
     go (inr s) can = absurd (true≢false (sym can ∙ ap (λ t. t && b) s.0))
 again-owner false owner c b e can = refl
 
--- who gives one lock of several back owns the mutex still
+-- a client that gives one of several locks back still owns the mutex
 abbrev given_back : MutexView → Bool → MutexView
 given_back s several =
     cond several (record s { count = s.count - 1 }) (freed s (after_release s.consistency))
@@ -67,7 +67,7 @@ no-owner : (k : Bool) → ◌≡◌ {A = Option ℕ} (cond k None None) None
 no-owner true = refl
 no-owner false = refl
 
--- and who gives the last one back doesn't
+-- a client that gives the last lock back no longer owns the mutex
 last-owner : (s : MutexView) (b : Bool) → (s.robust && not b) ≡ true
     → cond (given_back s b).robust (given_back s b).owner None ≡ None
 last-owner s true e = go s.robust e
@@ -85,13 +85,13 @@ once-owner true (Some d) c b e own =
     ap Some same
 once-owner false owner c b e own = cc
 
--- a robust one that is locked is its owner's
+-- a free robust mutex that is locked is owned by the client
 new-owner : (robust : Bool) (owner : Option ℕ) (c : ℕ) → (robust && is_none owner) ≡ true
     → cond robust (Some c) None ≡ Some c
 new-owner true owner c e = refl
 new-owner false owner c e = cc
 
--- a client that has a row has something in it
+-- a client that has a row has a value there
 pub row-there : (clients : List (ClientRow Caller)) (c : ℕ) → has_client clients c ≡ true
     → (v : Caller) × (client_value clients c ≡ Some v)
 row-there clients c has = go (client_at clients c) refl has
@@ -110,7 +110,7 @@ module _ {A : Type 0} where
   free-none (Some (Cond q)) e = refl
   free-none (Some (Barrier count)) e = refl
 
-  -- a chain of which an object is one has a head
+  -- a chain that an object is in has a head
   pub has-head : (objects : List (ObjectRow (Object A))) (head : Option ℕ) (test : ℕ → Bool)
       → HasOwned objects head test → (m : ℕ) → passes test (robust_owner_at objects m) ≡ true
       → (n : ℕ) × ((head ≡ Some n) × IsInChain objects n m)
@@ -122,7 +122,7 @@ module _ {A : Type 0} where
       go (n ∷ ns) l i =
           (n, (l.0, (n ∷ ns, subst (λ x. IsChain objects x (n ∷ ns)) l.0 l, i)))
 
-  -- where a row comes into a chain, and then a value is written, or goes out of it
+  -- a row enters a chain or leaves it, and then a value is written
   enters-then : (old mid new : List (ObjectRow (Object A))) (head after : Option ℕ) (m : ℕ)
       → KeepsChains mid new → EntersChain old mid head after m → EntersChain old new head after m
   enters-then old mid new head after m k w = record {
@@ -141,7 +141,7 @@ module _ {A : Type 0} where
     linked = λ n. k.linked n ∙ w.linked n;
   }
 
-  -- the owners, once a value is written
+  -- the owners after a value is written
   pub owners-written : (old new : List (ObjectRow (Object A))) (m : ℕ) (y : Object A)
       (owner : Option ℕ) → WritesObject old new m y → robust_owner y ≡ owner
       → Owned old new m owner
@@ -159,7 +159,7 @@ module _ {A : Type 0} where
       let h = a.1.living c v e in
       (h.numbers, h.chain)
 
-  -- and its head, where it has a mutex that is locked once
+  -- its head, if the client has a mutex that is locked once
   pub head-there : (clients : List (ClientRow Caller)) (objects : List (ObjectRow (Object A)))
       → ((orphans : Option ℕ) × AreChained clients objects orphans) → (c m : ℕ) (x : MutexState)
       → object_value objects m ≡ Some (Mutex x) → IsTrue (owns x.seen c)
@@ -177,7 +177,7 @@ module _ {A : Type 0} where
       same : (n : ℕ) → (n == n) ≡ true
       same n = grind (arith, nat_tests)
 
-  -- the mutex that is there
+  -- the mutex that is found
   pub mutex-found : (o : Option (Object A)) → IsSome (mutex_in o)
       → (x : MutexState) × (o ≡ Some (Mutex x))
   mutex-found None e = cc
@@ -280,7 +280,7 @@ module _ {A : Type 0} where
             passed (is_gone clients) (robust_owner_at objects m) (each m (inl same)),
           )
 
-  -- once it is taken from its owner
+  -- after the mutex is taken from its owner
   pub freed-chained : (clients : List (ClientRow Caller))
       (old mid new : List (ObjectRow (Object A))) (m : ℕ) (after : Option ℕ) (x : MutexState)
       → AreChained clients old (Some m)

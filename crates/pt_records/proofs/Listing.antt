@@ -1,4 +1,4 @@
--- Numbers of a list but one.
+-- The numbers of a list with one more, and of a list without one.
 use Rattle.std.proofs.Common.{◌≡◌, ◌∙◌, ℕ, Bool, true, false, cond, not, nat_eq, List, [], ◌∷◌}
 use Rattle.std.proofs.Common.{refl, sym, inl, inr, arith}
 use Rattle.std.proofs.lemmas.Bool.Decides.{nat_tests}

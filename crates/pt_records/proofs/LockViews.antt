@@ -1,4 +1,4 @@
--- A read-write lock that is stored, as one client sees it; and the class of what a name finds.
+-- A stored read-write lock as one client sees it, and the class of the object that a name finds.
 use Rattle.std.proofs.Common.{◌≡◌, ℕ, true, Option, Some, None, List, refl, sym, ap, ◌∙◌}
 use Rattle.std.specs.Prelude.{option_map}
 use Rattle.pt_types.specs.declared.call.ObjectKind.{ObjectKind}
@@ -21,7 +21,7 @@ use Rattle.pt_records.specs.LocksInRows.{rwlock_in}
 use Rattle.pt_records.specs.Objects.{IsRwlock, ObjectsLook}
 use Rattle.pt_records.proofs.BoundReads.{view-by}
 
--- what is stored as a lock is one
+-- what is stored as a lock is a lock
 pub lock-in : {A : Type 0} (h : History) (look : ℕ → Option (Object A)) → ObjectsLook h look
     → (o k : ℕ) (r : RwlockState) → k ≡ o → rwlock_in (look k) ≡ Some r → IsRwlock h o r
 lock-in {A = A} h look t o k r same e = t.rwlocks o r (ap look (sym same) ∙ go (look k) e)
@@ -52,7 +52,7 @@ class_same BarrierClass MutexClass e = absurd cc
 class_same BarrierClass RwlockClass e = absurd cc
 class_same BarrierClass CondClass e = absurd cc
 
--- what a name finds is of the class
+-- the object that a name finds has the class
 pub class-found : (h : History) → Follows h → (n : List ℕ) (s : ObjectClass) (o : ℕ)
     → find h n s ≡ Some o
     → option_map class_of (kind_of h o) ≡ Some s
@@ -62,7 +62,7 @@ class-found h f n s o e = go (kind_of h o) (known_exists h f s o (n, e))
     go None e = absurd cc
     go (Some k) e = ap Some (class_same (class_of k) s e)
 
--- what a name finds as a lock is one
+-- an object that a name finds as a lock is a lock
 pub lock-found : (h : History) → Follows h → (n : List ℕ) (r : ℕ) → find h n RwlockClass ≡ Some r
     → kind_of h r ≡ Some kind.Rwlock
 lock-found h f n r e = go (kind_of h r) (known_exists h f RwlockClass r (n, e))
@@ -74,7 +74,7 @@ lock-found h f n r e = go (kind_of h r) (known_exists h f RwlockClass r (n, e))
     go (Some kind.Cond) e = absurd cc
     go (Some (kind.Barrier n)) e = absurd cc
 
--- what a name finds as a condition is one
+-- an object that a name finds as a condition is a condition
 pub cond-found : (h : History) → Follows h → (n : List ℕ) (q : ℕ) → find h n CondClass ≡ Some q
     → kind_of h q ≡ Some kind.Cond
 cond-found h f n q e = go (kind_of h q) (known_exists h f CondClass q (n, e))
@@ -86,7 +86,7 @@ cond-found h f n q e = go (kind_of h q) (known_exists h f CondClass q (n, e))
     go (Some kind.Rwlock) e = absurd cc
     go (Some (kind.Barrier n)) e = absurd cc
 
--- a lock that is stored is seen as it is read off the history
+-- a client sees a stored lock as it is read off the history
 pub view-kept : (h : History) → Follows h → (o : ℕ) (r : RwlockState) → IsRwlock h o r → (c : ℕ)
     → seen_by r c ≡ rwlock_view h o c
 view-kept h f o r k c = view-by h f o r k.writer k.reads c

@@ -32,7 +32,7 @@ use Rattle.pt_model.proofs.OpenOrder.{open-ascends}
 use Rattle.pt_records.specs.Logs.{told_at, log, outcome_before, answers_in, since, Rises, last_to}
 use Rattle.pt_records.specs.Logs.{said_by, outcome_in_log, first_to, first_said}
 
--- given before place n
+-- all these answers were given before place n
 abbrev pub Before : ℕ → List (ℕ × Told) → Type 0
 Before n ps = Each (λ p. p.0 < n) ps
 
@@ -73,20 +73,20 @@ log-rises (h ▷ e) =
     (log-before h))
     (omega arith) (rises-told (place h) (told h e))
 
--- none was given since a place that is after all of them
+-- none was given since a place that is after all of theirs
 pub since-none : (n k : ℕ) (ps : List (ℕ × Told)) → Before n ps → n ≤ k → since k ps ≡ []
 since-none n k [] b le = refl
 since-none n k (p ∷ ps) b le =
     rw (lt-leb k p.0 (omega (arith, b.0, le))) (since-none n k ps b.1 le)
 
--- all were, where they begin at it
+-- all were given since a place that is not after the first of theirs
 pub since-all : (n k : ℕ) (ps : List (ℕ × Told)) → Rises n ps → k ≤ n → since k ps ≡ ps
 since-all n k [] r le = refl
 since-all n k (p ∷ ps) r le =
     rw (le-leb k p.0 (omega (arith, r.0, le)))
     (ap (λ qs. p ∷ qs) (since-all p.0 k ps r.1 (omega (arith, r.0, le))))
 
--- the answers of these entries, after h
+-- the answers that these entries give after h
 abbrev pub log_onto : History → List Entry → List (ℕ × Told)
 log_onto h [] = []
 log_onto h (e ∷ es) = told_at (place h) (told h e) ++ log_onto (h ▷ e) es
@@ -120,7 +120,7 @@ since-onto k h (e ∷ es) le =
     ∙ ap (λ ps. told_at (place h) (told h e) ++ ps)
     (since-onto k (h ▷ e) es (omega (arith, le))))
 
--- the answers from place k on are those that the log has since then
+-- the answers from place k on are those that were logged since then
 pub log-from : (s : Start) (es : List Entry) (k : ℕ)
     → answers_behind s k es ≡ answers_in (since k (log (behind s es)))
 log-from s es k = sym (ap answers_in (whole ∙ split (cases_lt (length es) n))
@@ -200,7 +200,7 @@ last_to-early j n k (t ∷ ts) a lt =
       ne_eqb t.place j (λ e. omega (arith, a.0, lt, e)),
     ) refl
 
--- of the answers of one entry, the last to a call is the only one
+-- among the answers of one entry, the last one to a call is the only one
 last-only : (j n k : ℕ) (ts : List Told) → Climbs n ts
     → outcome_in_log (told_at k ts) j ≡ outcome_in ts j
 last-only j n k [] a = refl
@@ -230,7 +230,7 @@ or-or : (a b c : Option Told) → option_or (option_or a b) c ≡ option_or a (o
 or-or None b c = refl
 or-or (Some x) b c = refl
 
--- the last answer in two logs is that of the later one, where it has one
+-- the last answer in two logs is that of the later one, if it has one
 pub last_to-append : (ps qs : List (ℕ × Told)) (j : ℕ)
     → last_to (ps ++ qs) j ≡ option_or (last_to qs j) (last_to ps j)
 last_to-append [] qs j = none (last_to qs j)
@@ -270,7 +270,7 @@ log-outcome (h ▷ e) j =
     ∙ (or-assoc (outcome_in (told h e) j) (outcome_in_log (log h) j) (outcome_before h j)
     ∙ ap (λ o. option_or (outcome_in (told h e) j) o) (sym (log-outcome h j))))
 
--- the first answer in two logs is that of the earlier one, where it has one
+-- the first answer in two logs is that of the earlier one, if it has one
 first-append : (ps qs : List (ℕ × Told)) (j : ℕ)
     → first_said (ps ++ qs) j ≡ option_or (first_said ps j) (first_said qs j)
 first-append [] qs j = refl
@@ -292,7 +292,7 @@ first-told j k (t ∷ ts) = go (eqb t.place j) (first-told j k ts)
     go true ih = refl
     go false ih = ih
 
--- an answer where there was none before is the first one
+-- an answer to a call that had none before is the first one
 or-first : (t f b o : Option Outcome) → o ≡ option_or f b → (is_some t ≡ true → o ≡ None)
     → option_or t o ≡ option_or (option_or f t) b
 or-first None None b o e fresh = e

@@ -23,7 +23,7 @@ rises-at n zero (x ∷ xs) d r lt = r.0
 rises-at n (suc i) (x ∷ xs) d r lt =
     omega (arith, r.0, rises-at x.at i xs d r.1 (omega (arith, lt)))
 
--- what comes before one that was given before place k was given before it too
+-- the answers up to one that was given before place k were given before it too
 early : (n k i : ℕ) (xs : List Answered) (d : Answered) → Rises n (map logged xs) → i < length xs
     → (get_or xs i d).at < k → since k (map logged (take (suc i) xs)) ≡ []
 early n k i [] d r lt at = absurd (omega (arith, lt))
@@ -39,7 +39,7 @@ parts k i xs =
     ∙ (ap (since k) (map-append logged (take i xs) (drop i xs))
     ∙ filter-append (λ p. nat_le k p.0) (map logged (take i xs)) (map logged (drop i xs)))
 
--- after the last one that was given before place k stand those since then
+-- the answers after the last one that was given before place k are those since then
 pub since-found : (k i : ℕ) (xs : List Answered) (d : Answered) → Rises 0 (map logged xs) → 0 < i
     → i ≤ length xs → (get_or xs (i - 1) d).at < k → AllSince k (drop i xs)
     → map logged (drop i xs) ≡ since k (map logged xs)
@@ -53,14 +53,14 @@ since-found k i xs d r pos le at rest =
     same : suc (i - 1) ≡ i
     same = omega (arith, pos)
 
--- those from one that was given since place k on were given since then
+-- the answers from one that was given since place k on were given since then too
 late : (n k i : ℕ) (xs : List Answered) (d : Answered) → Rises n (map logged xs) → i < length xs
     → k ≤ (get_or xs i d).at → Rises k (map logged (drop i xs))
 late n k i [] d r lt le = absurd (omega (arith, lt))
 late n k zero (x ∷ xs) d r lt le = (le, r.1)
 late n k (suc i) (x ∷ xs) d r lt le = late x.at k i xs d r.1 (omega (arith, lt)) le
 
--- none comes after the last one
+-- no answer comes after the last one
 pub since-end : (k i : ℕ) (xs : List Answered) → i ≡ length xs → AllSince k (drop i xs)
 since-end k i xs e =
     subst (λ ys. AllSince k ys) (sym (drop_of_length-le xs (omega (arith, e)))) refl
@@ -72,24 +72,25 @@ end-within i xs e = omega (arith, e)
 abbrev pub NoneSince : ℕ → List Answered → Type 0
 NoneSince k xs = since k (map logged xs) ≡ []
 
--- no earlier one was given since place k
+-- if an answer was given before place k, none up to it was given since then
 pub none-since : (k i : ℕ) (xs : List Answered) (d : Answered) → Rises 0 (map logged xs)
     → i < length xs → (get_or xs i d).at < k → NoneSince k (take (suc i) xs)
 none-since k i xs d r lt at = early 0 k i xs d r lt at
 
--- each later one was given since place k
+-- if an answer was given since place k, so was each one after it
 pub all-since : (k i : ℕ) (xs : List Answered) (d : Answered) → Rises 0 (map logged xs)
     → i < length xs → k ≤ (get_or xs i d).at → AllSince k (drop i xs)
 all-since k i xs d r lt le =
     since-all k k (map logged (drop i xs)) (late 0 k i xs d r lt le) (omega arith)
 
--- those since place k begin where none is earlier and each later one is
+-- the answers since place k begin at an index if none before it was given since then, and all
+-- others were
 pub since-between : (k i : ℕ) (xs : List Answered) → NoneSince k (take i xs)
     → AllSince k (drop i xs) → map logged (drop i xs) ≡ since k (map logged xs)
 since-between k i xs none all =
     sym (parts k i xs ∙ (ap (λ ps. ps ++ since k (map logged (drop i xs))) none ∙ all))
 
--- the first to a call, found among the answers
+-- the first answer to a call, found among the answers
 first_found : (j : ℕ) (xs : List Answered)
     → option_map (λ a. (logged a).1) (find (λ a. a.place == j) xs) ≡ first_to (map logged xs) j
 first_found j [] = refl
@@ -102,7 +103,7 @@ first_found j (x ∷ xs) = go (x.place == j) (first_found j xs)
     go true ih = refl
     go false ih = ih
 
--- what the first to a call says, found among the answers of a log
+-- the outcome of the first answer to a call, found among the answers of a log
 pub said-found : (j : ℕ) (xs : List Answered) (ps : List (ℕ × Told)) → map logged xs ≡ ps
     → option_map (λ a. a.outcome) (find (λ a. a.place == j) xs) ≡ first_said ps j
 said-found j xs ps same =
@@ -114,7 +115,7 @@ said-found j xs ps same =
     go None = refl
     go (Some a) = refl
 
--- what is told by more answers
+-- the log after more answers
 pub told-after : (old new all : List Answered) (ps : List (ℕ × Told)) → all ≡ old ++ new
     → map logged new ≡ ps → map logged all ≡ map logged old ++ ps
 told-after old new all ps whole told =

@@ -1,4 +1,4 @@
--- The log of answers: its answers and its room, by its fields and as these change.
+-- The log of answers: its answers and its room, by its fields, and after these change.
 use Rattle.std.proofs.Common.{◌≡◌, ℕ, ◌+◌, ◌-◌, ◌<◌, ◌≤◌, List, [], ◌∷◌, ◌++◌, length, take, drop}
 use Rattle.std.proofs.Common.{Vec, vec_len, vec_capacity, min, Result, Ok, Err, OnOk, get_or}
 use Rattle.std.proofs.Common.{Option, None, MatchOption, sym, ap, ◌∙◌, subst, arith}
@@ -12,17 +12,17 @@ use Rattle.pt_records.specs.AnswerLogs.{StoredLog, AreReadable, HasRoom, Shorten
 use Rattle.pt_records.specs.AnswerLogs.{lengthened, lengthened_all, no_answer}
 use Rattle.pt_records.proofs.Shortened.{lengthened-push}
 
--- the same answers can be read elsewhere
+-- equal lists of answers are readable alike
 pub readable-same : (b : ℕ) (ws vs : List Answered) (ss ts : List Short) → vs ≡ ws → ts ≡ ss
     → AreReadable b ws ss → AreReadable b vs ts
 readable-same b ws vs ss ts e f r = rw (e, f) r
 
--- where there are none
+-- an empty list is readable
 pub readable-none : (b : ℕ) (vs : List Answered) (ts : List Short) → ts ≡ [] → b ≤ most_places
     → AreReadable b vs ts
 readable-none b vs ts e low = rw e (record { base = low; there = λ k d l. absurd (omega arith) })
 
--- those from an index on
+-- the answers from an index on are readable
 pub readable-from : (b : ℕ) (ws vs : List Answered) (ss ts : List Short) (i : ℕ) → vs ≡ ws
     → ts ≡ ss → AreReadable b ws ss → AreReadable b vs (take (length ts - i) (drop i ts))
 readable-from b ws vs ss ts i e f r =
@@ -30,14 +30,14 @@ readable-from b ws vs ss ts i e f r =
     take_all (length ss - i) (drop i ss) (omega (arith, length-drop i ss)) in
     rw (e, f, rest) (record { base = r.base; there = All-drop (IsThere ws) i ss r.there })
 
--- what the short answer at an index refers to is there
+-- what the short answer at an index refers to is stored
 pub there-at : {A : Type 0} (b : ℕ) (ws vs : List Answered) (ss : Vec Short A) (s : Short) (i : ℕ)
     → vs ≡ ws → s ≡ get_or ss.items i s → i < vec_len ss → AreReadable b ws ss.items → IsThere vs s
 there-at b ws vs ss s i e f less r =
     let inside : i < length ss.items = omega (arith, less, ss.ok.0) in
     rw e (subst (λ x. IsThere ws x) (sym f) (r.there i s inside))
 
--- the first of them
+-- so is what the first one refers to
 pub there-first : (b : ℕ) (ws : List Answered) (ss rest : List Short) (s : Short) → ss ≡ s ∷ rest
     → AreReadable b ws ss → IsThere ws s
 there-first b ws ss rest s e r =
@@ -51,7 +51,7 @@ read-first b ws ss rest s a seen is e made =
     sym is
     ∙ (ap (lengthened_all b ws) e ∙ ap (λ x. x ∷ lengthened_all b ws rest) (sym made))
 
--- and none where there is none
+-- no answer is read if there is none
 pub read-none : (b : ℕ) (ws : List Answered) (ss : List Short) (seen : List Answered)
     (answer : Option Answered) → lengthened_all b ws ss ≡ seen → length ss ≡ 0 → answer ≡ None
     → MatchOption answer ((seen ≡ []) × (seen ≡ [])) (λ a. seen ≡ a ∷ seen)
@@ -59,13 +59,13 @@ read-none b ws ss seen answer is e none =
     let empty : seen ≡ [] = sym is ∙ ap (lengthened_all b ws) (nil_from_length ss e) in
     rw none (empty, empty)
 
--- it is enough that more than what was asked for succeeds
+-- a request for more room than is needed is enough if it succeeds
 pub ok-less : {T E : Type 0} (answer : Result T E) (len k n c : ℕ) → k ≤ n
     → OnOk answer (len + n ≤ c) → OnOk answer (len + k ≤ c)
 ok-less (Ok x) len k n c less ok = omega (arith, less, ok)
 ok-less (Err e) len k n c less ok = tt
 
--- more is asked for than there is room
+-- if there is too little room, no less is asked for than is needed
 pub more-asked : (room many asked : ℕ) → room < many → many < 18446744073709551616
     → asked ≡ min (many + 64) 18446744073709551615 → many ≤ asked
 more-asked room many asked less fits is = omega (arith, less, fits, is)
@@ -83,7 +83,7 @@ pub room-asked : (room many asked : ℕ) → room < many → many ≤ asked → 
 room-asked room many asked less more = omega (arith, less, more)
 
 module _ {A : Type 0} where
-  -- room stays where no list got longer, and none lost memory
+  -- room is preserved if no list grew, and none lost memory
   pub room-same : (ss ts : Vec Short A) (ws vs : Vec Answered A) (n : ℕ) → HasRoom ss ws n
       → vec_len ts ≡ vec_len ss → vec_capacity ss ≤ vec_capacity ts → vec_len vs ≡ vec_len ws
       → vec_capacity ws ≤ vec_capacity vs → HasRoom ts vs n
@@ -97,7 +97,7 @@ module _ {A : Type 0} where
   room-shorts ss ts ws n r a b =
       record { shorts = omega (arith, r.shorts, a, b); wholes = r.wholes }
 
-  -- and where none has an answer any more
+  -- so it is if no answer is left
   pub room-empty : (ss ts : Vec Short A) (ws vs : Vec Answered A) (n : ℕ) → HasRoom ss ws n
       → vec_len ts ≡ 0 → vec_capacity ts ≡ vec_capacity ss → vec_len vs ≡ 0
       → vec_capacity vs ≡ vec_capacity ws → HasRoom ts vs n
@@ -106,7 +106,7 @@ module _ {A : Type 0} where
     wholes = omega (arith, r.wholes, c, d);
   }
 
-  -- there is none to begin with, and then what memory was got for
+  -- there is no room at first, and then as much as memory was got for
   pub room-none : (ss : Vec Short A) (ws : Vec Answered A) → HasRoom ss ws 0
   room-none ss ws = record { shorts = omega (arith, ss.ok.1); wholes = omega (arith, ws.ok.1) }
 
@@ -132,7 +132,7 @@ module _ {A : Type 0} where
       → length (lengthened_all b ws ss.items) + k ≤ vec_len ss + k
   many-more b ws ss k = omega (arith, as-many b ws ss)
 
-  -- a log that is seen as these answers with this room
+  -- a log that contracts see as these answers with this room
   module _ (b n : ℕ) (ws : Vec Answered A) (ss : Vec Short A) (seen : StoredLog)
       (is : record { items = lengthened_all b ws.items ss.items; capacity = vec_len ss + n } ≡ seen)
     where
@@ -157,17 +157,17 @@ module _ {A : Type 0} where
           → vec_len ws < vec_capacity ws
       wholes-left less r = omega (arith, room-left less, r.wholes)
 
-      -- one more answer leaves as much room in all
+      -- after one more answer, the capacity is the same
       pub room-after : (ts : Vec Short A) → vec_len ts ≡ vec_len ss + 1 → 1 ≤ n
           → vec_len ts + (n - 1) ≡ seen.capacity
       room-after ts more one = omega (arith, more, one, seen-room)
 
-      -- the same answers are seen elsewhere
+      -- the same answers are seen in equal lists
       pub seen-same : (vs : List Answered) (ts : List Short) → vs ≡ ws.items → ts ≡ ss.items
           → lengthened_all b vs ts ≡ seen.items
       seen-same vs ts e f = rw (e, f) (ap (λ (s : StoredLog). s.items) is)
 
-      -- and one more
+      -- the same with one more answer
       pub seen-push : (ts : List Short) (s : Short) (a : Answered) → ts ≡ ss.items ++ s ∷ []
           → AreReadable b ws.items ss.items → ShortensAlone b a s
           → lengthened_all b ws.items ts ≡ seen.items ++ a ∷ []
@@ -177,7 +177,7 @@ module _ {A : Type 0} where
           (one.same ws.items)
           ∙ ap (λ (s : StoredLog). s.items ++ a ∷ []) is)
 
-      -- as much room stays, and at least as much comes
+      -- the capacity is no less if the room is unchanged, or at least this much was added
       pub room-kept : (ts : Vec Short A) → vec_len ts ≡ vec_len ss → seen.capacity ≤ vec_len ts + n
       room-kept ts e = omega (arith, e, seen-room)
 
@@ -185,11 +185,11 @@ module _ {A : Type 0} where
           → seen.capacity ≤ length seen.items + k → seen.capacity ≤ vec_len ts + k
       room-grown ts k e more = omega (arith, e, more, seen-many)
 
-      -- the answers that are forgotten leave their room
+      -- the answers that are removed leave their room
       pub room-cleared : (k : ℕ) → seen.capacity ≤ k + n + length seen.items
       room-cleared k = omega (arith, seen-many, seen-room)
 
-      -- so many more fit, and no more than these
+      -- as many more answers fit as there is room for, and no more
       pub room-enough : (k : ℕ) → k ≤ n → length seen.items + k ≤ seen.capacity
       room-enough k less = omega (arith, less, seen-many, seen-room)
 
@@ -199,7 +199,7 @@ module _ {A : Type 0} where
       pub room-short : (k : ℕ) → n < k → length seen.items + k ≤ seen.capacity → ⊥
       room-short k less enough = omega (arith, less, enough, seen-many, seen-room)
 
-      -- an index of an answer is one of a short answer
+      -- an index of an answer is an index of a short answer
       pub index-within : (i : ℕ) → i < length seen.items → i < vec_len ss
       index-within i less = omega (arith, less, seen-many)
 
@@ -207,7 +207,7 @@ module _ {A : Type 0} where
           → length ts ≡ vec_len ss → i ≤ length ts
       start-within i ts less e = omega (arith, less, e, seen-many)
 
-      -- what is read of the answer at an index
+      -- what is read off the answer at an index
       pub place-at : (vs : List Answered) (s : Short) (a : Answered) (i : ℕ) → vs ≡ ws.items
           → s ≡ get_or ss.items i s → i < length seen.items → a ≡ lengthened b vs s
           → a.at ≡ (get_or seen.items i no_answer).at

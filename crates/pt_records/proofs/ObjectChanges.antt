@@ -1,4 +1,4 @@
--- Rows of objects after one is written, added or taken out.
+-- Rows of objects after one is written, added or removed.
 use Rattle.std.proofs.Common.{◌≡◌, ℕ, ◌||◌, Bool, true, false, cond, nat_eq, List, Option, Some}
 use Rattle.std.proofs.Common.{None, is_some, option_map, Result, Ok, Err, OnErr, refl, sym, ap, ◌∙◌}
 use Rattle.pt_mutex.specs.MutexState.{MutexState}
@@ -20,11 +20,11 @@ use Rattle.pt_records.proofs.ObjectNames.{number-map, names-map, number-added, n
 use Rattle.pt_records.proofs.ObjectNames.{number-without, names-without}
 
 module _ {A : Type 0} where
-  -- a value that is put in a row
+  -- a row with a new value
   abbrev put_in : Object A → ObjectRow (Object A) → ObjectRow (Object A)
   put_in x row = record row { value = x }
 
-  -- a row keeps its name
+  -- the name of a row is unchanged
   name-kept : (x : Object A) (o : ℕ) (r : ObjectRow (Object A))
       → (one_changed number_in (put_in x) o r).name ≡ r.name
   name-kept x o r = go (nat_eq o r.number)
@@ -59,7 +59,7 @@ module _ {A : Type 0} where
       rw what
       (writes-object rows m (Mutex (f x)) (value-there number_in value_in rows m (Mutex x) e))
 
-  -- and of the read-write lock that was there
+  -- the same by a change of the read-write lock that was there
   pub writes-lock : (f : RwlockState → RwlockState) (rows : List (ObjectRow (Object A))) (r : ℕ)
       (kept : Object A) (u y : RwlockState) → Some kept ≡ object_value rows r → kept ≡ Rwlock u
       → y ≡ f u → (x : RwlockState) → object_value rows r ≡ Some (Rwlock x)
@@ -70,7 +70,7 @@ module _ {A : Type 0} where
       rw what
       (writes-object rows r (Rwlock (f x)) (value-there number_in value_in rows r (Rwlock x) e))
 
-  -- where number or name would be taken, the name is new
+  -- if neither the number nor the name is taken, the name is new
   unnamed : (rows : List (ObjectRow (Object A))) (o : ℕ) (name : List ℕ)
       → is_taken rows o name ≡ false → object_named rows name ≡ None
   unnamed rows o name e = go (has_object rows o) (object_named rows name) e
@@ -80,7 +80,7 @@ module _ {A : Type 0} where
       go false None e = refl
       go false (Some row) e = cc
 
-  -- the rows and a new one
+  -- the rows with a new one
   pub adds-object : (rows : List (ObjectRow (Object A))) (o : ℕ) (name : List ℕ) (x : Object A)
       → is_taken rows o name ≡ false → Rising rows o
       → AddsObject rows (and_object rows o name x) o name x
@@ -111,7 +111,7 @@ module _ {A : Type 0} where
     chains = keeps-removed rows o;
   }
 
--- what holds anyhow holds where there is a refusal, or none
+-- a statement that holds anyway holds if there is an error
 pub whenever-err : {T E P : Type 0} (answer : Result T E) → P → OnErr answer P
 whenever-err (Ok v) p = tt
 whenever-err (Err e) p = p

@@ -1,4 +1,4 @@
--- Rows of objects after one is written, added or taken out: their names.
+-- Rows of objects after one is written, added or removed: their names.
 use Rattle.std.proofs.Common.{◌≡◌, ℕ, Bool, true, false, cond, not, nat_eq, List, [], ◌∷◌, ◌++◌}
 use Rattle.std.proofs.Common.{map, Option, Some, None, option_map, refl, sym, ap, ◌∙◌, arith}
 use Rattle.std.proofs.lemmas.Bool.Decides.{nat_tests}
@@ -10,7 +10,7 @@ use Rattle.pt_model.proofs.Named.{same_named, named_same}
 use Rattle.pt_records.specs.declared.objects.Object.{Object}
 use Rattle.pt_records.specs.Writes.{NamesOnce}
 
--- a name is the other's where the other is its
+-- comparing two names gives the same in either order
 pub same-turned : (m n : List ℕ) → same_name m n ≡ same_name n m
 same-turned m n = go (same_name m n) refl (same_name n m) refl
   where
@@ -25,7 +25,7 @@ same-turned m n = go (same_name m n) refl (same_name n m) refl
     go false s false t = refl
 
 module _ {A : Type 0} where
-  -- a change that leaves the names, seen at one name
+  -- a change that leaves the names unchanged, seen at one name
   pub row-named-map : (f : ObjectRow (Object A) → ObjectRow (Object A))
       → ((r : ObjectRow (Object A)) → (f r).name ≡ r.name)
       → (rows : List (ObjectRow (Object A))) (n : List ℕ)
@@ -41,7 +41,7 @@ module _ {A : Type 0} where
       go ih true = refl
       go ih false = ih
 
-  -- and the numbers too
+  -- a change that leaves the numbers unchanged too
   pub number-map : (f : ObjectRow (Object A) → ObjectRow (Object A))
       → ((r : ObjectRow (Object A)) → (f r).name ≡ r.name)
       → ((r : ObjectRow (Object A)) → (f r).number ≡ r.number)
@@ -66,7 +66,7 @@ module _ {A : Type 0} where
     names-map f keeps rows a.1,
   )
 
-  -- a row that is put last is found where its name is new
+  -- a row that is added last is found by its name if the name is new
   row-named-added : (rows : List (ObjectRow (Object A))) (row : ObjectRow (Object A)) (n : List ℕ)
       → object_named rows row.name ≡ None
       → object_named (rows ++ row ∷ []) n
@@ -132,7 +132,7 @@ module _ {A : Type 0} where
         ih new a.1,
       )
 
-  -- a name that no row has is no row's where one is taken out
+  -- a name that no row has is in no row after one is removed
   named-without : (rows : List (ObjectRow (Object A))) (o : ℕ) (n : List ℕ)
       → object_named rows n ≡ None → object_named (without_object rows o) n ≡ None
   named-without [] o n e = refl
@@ -158,7 +158,7 @@ module _ {A : Type 0} where
       go ih true = ih
       go ih false = (named-without rows o r.name a.0, ih)
 
-  -- the name of the object that is taken out is free, and the others mean what they did
+  -- the name of the object that is removed is free, and the others find what they did
   pub number-without : (rows : List (ObjectRow (Object A))) (o : ℕ) (n : List ℕ) → NamesOnce rows
       → number_of (without_object rows o) n
       ≡ cond (is_number (number_of rows n) o) None (number_of rows n)

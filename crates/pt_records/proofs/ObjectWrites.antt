@@ -1,4 +1,4 @@
--- Rows of objects after one is written, added or taken out: their numbers.
+-- Rows of objects after one is written, added or removed: their numbers.
 use Rattle.std.proofs.Common.{◌≡◌, ℕ, ◌+◌, ◌<◌, Bool, true, false, cond, not, nat_eq, List, [], ◌∷◌}
 use Rattle.std.proofs.Common.{◌++◌, map, Some, None, refl, ap, ◌∙◌, arith}
 use Rattle.std.specs.List.{AllByRecursion as Each}
@@ -17,7 +17,7 @@ module _ {A : Type 0} where
   abbrev pub value_in : ObjectRow (Object A) → Object A
   value_in row = row.value
 
-  -- a number below all others is none of theirs
+  -- a number below those of all rows is in no row
   below-none : (rows : List (ObjectRow (Object A))) (k : ℕ)
       → Each (λ other. k < other.number) rows → object_at rows k ≡ None
   below-none [] k a = refl
@@ -25,13 +25,13 @@ module _ {A : Type 0} where
       let apart : nat_eq k row.number ≡ false = grind (arith, nat_tests, a.0) in
       ap (λ b. cond b (Some row) (object_at rows k)) apart ∙ below-none rows k a.1
 
-  -- rising numbers stand once each
+  -- rising numbers occur once each
   pub rising-apart : (rows : List (ObjectRow (Object A))) (k : ℕ) → Rising rows k
       → Apart number_in rows
   rising-apart [] k a = tt
   rising-apart (row ∷ rows) k a = (below-none rows row.number a.1, rising-apart rows k a.2)
 
-  -- a number above all others is none of theirs
+  -- a number above those of all rows is in no row
   pub rising-new : (rows : List (ObjectRow (Object A))) (k : ℕ) → Rising rows k
       → object_at rows k ≡ None
   rising-new [] k a = refl
@@ -47,7 +47,7 @@ module _ {A : Type 0} where
   Each-map f keeps k (row ∷ rows) a =
       (omega (arith, a.0, keeps row), Each-map f keeps k rows a.1)
 
-  -- a change that leaves the numbers leaves them rising
+  -- a change that leaves the numbers unchanged leaves them rising
   pub rising-map : (f : ObjectRow (Object A) → ObjectRow (Object A))
       → ((r : ObjectRow (Object A)) → (f r).number ≡ r.number) → (k : ℕ)
       → (rows : List (ObjectRow (Object A))) → Rising rows k → Rising (map f rows) k
@@ -58,7 +58,7 @@ module _ {A : Type 0} where
     rising-map f keeps k rows a.2,
   )
 
-  -- a row that is put last has the greatest number
+  -- a row that is added last has the greatest number
   pub rising-added : (rows : List (ObjectRow (Object A))) (row : ObjectRow (Object A))
       → Rising rows row.number → Rising (rows ++ row ∷ []) (row.number + 1)
   rising-added [] row a = (omega arith, tt, tt)

@@ -31,7 +31,7 @@ row-look (x ∷ rows) once row (inr i) =
     any-false (λ (r : ClientRow Caller). r.number == x.number) rows row once.0 i in
     rw apart (row-look rows once.1 row i)
 
--- what is found of a client is in a row with its number
+-- what is found for a client is in a row with its number
 pub look-row : (rows : List (ClientRow Caller)) (c : ℕ) (v : Caller) → client_value rows c ≡ Some v
     → (row : ClientRow Caller) × (In row rows × (row.number ≡ c) × (row.value ≡ v))
 look-row [] c v e = absurd cc
@@ -62,7 +62,7 @@ row-open (x ∷ rows) row o (inr i) e = go x.value.open (row-open rows row o i e
     go None ih = ih
     go (Some first) ih = inr ih
 
--- each open call in the rows is the one of a row
+-- each open call in the rows is that of a row
 pub open-row : (rows : List (ClientRow Caller)) (o : Open) → In o (opens_of rows)
     → (row : ClientRow Caller) × (In row rows × (row.value.open ≡ Some o))
 open-row [] o i = absurd i
@@ -76,7 +76,7 @@ open-row (x ∷ rows) o i = go x.value.open refl i (open-row rows o)
     go (Some first) e (inl same) ih = (x, (inl refl, e ∙ ap Some (sym same)))
     go (Some first) e (inr i) ih = let found = ih i in (found.0, (inr found.1.0, found.1.1))
 
--- the first call that is a client's is one of the calls, and is the client's
+-- the first call of a client is one of the calls, and is the client's
 pub call_of-in : (ws : List WaitingCall) (c : ℕ) (w : WaitingCall) → call_of ws c ≡ Some w
     → In w ws × (w.client ≡ c)
 call_of-in [] c w e = absurd cc
@@ -90,7 +90,7 @@ call_of-in (x ∷ xs) c w e = go (x.client == c) refl e (call_of-in xs c w)
         (inl same, ap (λ (u : WaitingCall). u.client) same ∙ client)
     go false test e ih = let found = ih e in (inr found.0, found.1)
 
--- a call is the first of its client's, if it is the only one
+-- a call is its client's first if it is the only one
 pub in-call_of : (ws : List WaitingCall) (w : WaitingCall) → In w ws
     → ((v : WaitingCall) → In v ws → v.client ≡ w.client → v ≡ w) → call_of ws w.client ≡ Some w
 in-call_of [] w i one = absurd i
@@ -114,7 +114,7 @@ pub call_of-open : (h : History) → Follows h → (w : WaitingCall) → In w (o
     → call_of (open_calls h) w.client ≡ Some w
 call_of-open h f w i = in-call_of (open_calls h) w i (λ v j e. one_each h f v w j i e)
 
--- a call that a row shows is that of the row's open call
+-- a call that a row shows is the row's open call
 pub call_in-some : (kept : Option Caller) (w : WaitingCall) → call_in kept ≡ Some w → (v : Caller)
     × ((o : Open) × ((kept ≡ Some v) × (v.open ≡ Some o) × (o.call ≡ w)))
 call_in-some None w e = absurd cc
@@ -162,13 +162,13 @@ open-found h rows a o i =
     let kept = open-kept h rows a row.0 o row.1.0 row.1.1 in
     ((call_of-in (open_calls h) row.0.number o.call kept.0).0, kept.1)
 
--- tests that pass alike are the same
+-- tests that pass alike are equal
 bool_same : (a b : Bool) → (a ≡ true → b ≡ true) → (b ≡ true → a ≡ true) → a ≡ b
 bool_same true b f g = sym (f refl)
 bool_same false true f g = g refl
 bool_same false false f g = refl
 
--- a test of open calls passes in the rows where it passes in the history
+-- a test of open calls passes in the rows exactly if it passes in the history
 pub any-opens : (h : History) (rows : List (ClientRow Caller)) → Follows h → AreCallers h rows
     → (p : WaitingCall → Bool) (q : Open → Bool)
     → ((o : Open) → In o.call (open_calls h)

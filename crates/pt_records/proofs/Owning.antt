@@ -1,4 +1,4 @@
--- A robust mutex comes into the chain of its owner, or goes out of it.
+-- A robust mutex enters the chain of its owner, or leaves it.
 use Rattle.std.proofs.Common.{◌≡◌, ◌∙◌, ℕ, Bool, true, false, ◌==◌, cond, nat_eq, List, ◌∷◌, Option}
 use Rattle.std.proofs.Common.{Some, None, is_none, is_some, refl, sym, ap, subst, true≢false, inl}
 use Rattle.std.proofs.Common.{inr, arith}
@@ -19,12 +19,12 @@ use Rattle.pt_records.proofs.CallerWrites.{writes-by}
 use Rattle.pt_records.proofs.Chaining.{passed}
 use Rattle.pt_records.proofs.Listing.{but-kept, but-listed}
 
--- an owner is one of two clients at most
+-- an owner is not two clients
 pub two : (k c d : ℕ) → (c ≡ d → ⊥) → (k == c) ≡ true → (k == d) ≡ true → ⊥
 two k c d apart e f = grind (arith, nat_tests)
 
 module _ {A : Type 0} where
-  -- a client's row is written with another head, as a robust mutex comes into its chain
+  -- a client's row is written with another head as a robust mutex enters its chain
   pub owned-more : (clients : List (ClientRow Caller)) (old new : List (ObjectRow (Object A)))
       (n c m : ℕ) (u : Caller) (head : Option ℕ) → n ≡ c → Some u ≡ client_value clients n
       → EntersChain old new u.owned head m → (v : Caller) → client_value clients c ≡ Some v
@@ -43,7 +43,7 @@ module _ {A : Type 0} where
         ),
       )
 
-  -- or goes out of it
+  -- the same as a robust mutex leaves its chain
   pub owned-less : (clients : List (ClientRow Caller)) (old new : List (ObjectRow (Object A)))
       (n c m : ℕ) (u : Caller) (first : ℕ) (head : Option ℕ) → n ≡ c
       → Some u ≡ client_value clients n
@@ -64,21 +64,21 @@ module _ {A : Type 0} where
         ),
       )
 
-  -- the owners, but for an object that has another one now
+  -- the owners, except that an object has another one now
   abbrev pub Owned : (old new : List (ObjectRow (Object A))) → ℕ → Option ℕ → Type 0
   Owned old new m owner =
       (p : ℕ) → robust_owner_at new p ≡ cond (nat_eq m p) owner (robust_owner_at old p)
 
   module _ (old new : List (ObjectRow (Object A))) (head : Option ℕ) (test : ℕ → Bool)
       (h : HasOwned old head test) where
-    -- a chain of owners that the test refuses has nothing in common with this one
+    -- a chain with owners that the test refuses has no object in common with this one
     others-apart : (other : Option ℕ) (its : ℕ → Bool) (o : HasOwned old other its)
         → ((k : ℕ) → test k ≡ true → its k ≡ true → ⊥) → AreApart h.numbers o.numbers
     others-apart other its o differ n i j =
         let p = passed test (robust_owner_at old n) (h.listed n i) in
         differ p.0 p.1.1 (sym (ap (passes its) p.1.0) ∙ o.listed n j)
 
-    -- another chain that rises, of owners that the test refuses
+    -- another chain, with owners that the test refuses, still rises
     others-rise : KeepsOthers old new head → (other : Option ℕ) (its : ℕ → Bool)
         → (o : HasOwned old other its) → ((k : ℕ) → test k ≡ true → its k ≡ true → ⊥)
         → ((ns : List ℕ) → IsChain old other ns → IsRising ns)
@@ -87,7 +87,7 @@ module _ {A : Type 0} where
         rising-kept old new other o.numbers o.chain
         (kept h.numbers h.chain other o.numbers o.chain (others-apart other its o differ)) rise
 
-    -- another chain, of owners that the test refuses
+    -- another chain, with owners that the test refuses
     pub others : KeepsOthers old new head → (other : Option ℕ) (its : ℕ → Bool)
         → HasOwned old other its → ((k : ℕ) → test k ≡ true → its k ≡ true → ⊥)
         → ((p : ℕ) → passes its (robust_owner_at new p) ≡ passes its (robust_owner_at old p))
@@ -101,7 +101,7 @@ module _ {A : Type 0} where
 
   module _ (old new : List (ObjectRow (Object A))) (head after : Option ℕ) (test : ℕ → Bool)
       (m : ℕ) (h : HasOwned old head test) where
-    -- the chain that it comes into
+    -- the chain that the mutex enters
     entered : EntersChain old new head after m → (c : ℕ) → test c ≡ true → Owned old new m (Some c)
         → HasOwned new after test
     entered w c passing owners = record {
@@ -124,7 +124,7 @@ module _ {A : Type 0} where
       ];
     }
 
-    -- the chain that it goes out of
+    -- the chain that the mutex leaves
     left : LeavesChain old new head after m → Owned old new m None → HasOwned new after test
     left w owners = record {
       numbers = but_number h.numbers m;
@@ -148,7 +148,7 @@ module _ {A : Type 0} where
   module _ (clients : List (ClientRow Caller)) (old new : List (ObjectRow (Object A)))
       (orphans : Option ℕ) (a : AreChained clients old orphans) (c m : ℕ) (v : Caller)
       (there : client_value clients c ≡ Some v) where
-    -- the test of another living client, and of the dead, refuses the client
+    -- the tests for another living client and for the dead refuse the client
     not-other : (d : ℕ) → (c ≡ d → ⊥) → (c == d) ≡ false
     not-other d apart = elim (eqb_tells c d) [
       | inl s ↦ absurd (apart s.1)
@@ -171,7 +171,7 @@ module _ {A : Type 0} where
         | inr s ↦ rw s.0 refl
       ]
 
-      -- the client has this head now, and the other chains are of the owners that they were of
+      -- the client has this head now, and the other chains have the same owners as before
       rechained : HasOwned new head (λ owner. owner == c)
           → ((d : ℕ) (u : Caller) → (c ≡ d → ⊥) → client_value clients d ≡ Some u
           → HasOwned new u.owned (λ owner. owner == d))
@@ -212,7 +212,7 @@ module _ {A : Type 0} where
                 (client_value clients d)) s.0) ∙ e)
           ]
 
-      -- it is the client's now, and was nobody's
+      -- the mutex is the client's now, and was nobody's
       pub chained-entered : robust_owner_at old m ≡ None
           → EntersChain old new v.owned head m → Owned old new m (Some c)
           → AreChained after new orphans
@@ -252,7 +252,7 @@ module _ {A : Type 0} where
                 (owners p ∙ ap (λ b. cond b (Some c) (robust_owner_at old p)) s.0)))
           ]
 
-      -- it was the client's, and is nobody's now
+      -- the mutex was the client's, and is nobody's now
       pub chained-left : robust_owner_at old m ≡ Some c
           → LeavesChain old new v.owned head m → Owned old new m None
           → AreChained after new orphans
@@ -289,7 +289,7 @@ module _ {A : Type 0} where
                 (owners p ∙ ap (λ b. cond b None (robust_owner_at old p)) s.0)))
           ]
 
-  -- it was an orphan, and is nobody's now
+  -- the mutex was an orphan, and is nobody's now
   pub chained-yielded : (clients : List (ClientRow Caller)) (old new : List (ObjectRow (Object A)))
       (orphans after : Option ℕ) (m d : ℕ) → AreChained clients old orphans
       → robust_owner_at old m ≡ Some d → is_gone clients d ≡ true

@@ -1,4 +1,4 @@
--- A queue whose first is taken out until none is left.
+-- A queue whose first waiter is removed until none is left.
 use Rattle.std.proofs.Common.{◌≡◌, ℕ, ◌<◌, ◌≤◌, length, ◌==◌, Bool, true, false, cond, not, ◌||◌}
 use Rattle.std.proofs.Common.{filter, List, [], ◌∷◌, ◌++◌, map, Option, Some, refl, sym, ap}
 use Rattle.std.proofs.Common.{◌∙◌, subst, append_assoc, arith, eq-eqb}
@@ -13,7 +13,7 @@ use Rattle.pt_waitq.specs.Queues.{head_of, of_client, stands_in, without}
 use Rattle.pt_waitq.specs.ListLemmas.{filter-rest}
 use Rattle.pt_waitq.proofs.CallerLemmas.{head-stands}
 
--- a queue is no longer without a client's waiters
+-- a queue is no longer without a client's waiters than with them
 without-length : (c : ℕ) (ws : List Waiter) → length (without c ws) ≤ length ws
 without-length c [] = omega arith
 without-length c (w ∷ ws) = go (not (w.client == c)) (without-length c ws)
@@ -23,7 +23,7 @@ without-length c (w ∷ ws) = go (not (w.client == c)) (without-length c ws)
     go true ih = omega (arith, ih)
     go false ih = omega (arith, ih)
 
--- a queue is shorter without its first
+-- a queue is shorter without its first waiter
 pub first-out : (ws : List Waiter) (w : Waiter) → head_of ws ≡ Some w
     → length (without w.client ws) < length ws
 first-out [] w e = absurd cc
@@ -32,7 +32,7 @@ first-out (v ∷ vs) w e =
     let own : v.client ≡ w.client = ap (λ (x : Waiter). x.client) same in
     rw (eq-eqb v.client w.client own) (omega (arith, without-length w.client vs))
 
--- what is known of the queues as the first of one is taken out, if there is one
+-- what is known of the queues after the first waiter of one is removed, if there is one
 module _ (queue queue' : ℕ → List Waiter) (found : Option Waiter) where
   pub taken : (w : Waiter) → found ≡ Some w
       → IfSome found (λ v. (q : ℕ) → queue' q ≡ without v.client (queue q))
@@ -40,7 +40,7 @@ module _ (queue queue' : ℕ → List Waiter) (found : Option Waiter) where
   taken w is out =
       subst (λ o. IfSome o (λ v. (q : ℕ) → queue' q ≡ without v.client (queue q))) is out
 
--- the first of one queue is in no other
+-- the first waiter of one queue is in no other
 pub others-stay :
     (queue : ℕ → List Waiter)
     → ((c q r : ℕ) → stands_in c (queue q) ≡ true → stands_in c (queue r) ≡ true → q ≡ r)
@@ -67,7 +67,8 @@ none-any p (w ∷ ws) le = go (p w) le (none-any p ws)
     go true few ih = absurd (omega (arith, few))
     go false few ih = ih few
 
--- a queue in which its first's client has one waiter is the first, and all without that client
+-- a queue in which its first waiter's client waits once is that waiter, and then all without that
+-- client
 pub first-split : (ws : List Waiter) (w : Waiter) → head_of ws ≡ Some w
     → length (of_client w.client ws) ≤ 1 → ws ≡ w ∷ without w.client ws
 first-split [] w e le = absurd cc
@@ -87,17 +88,17 @@ first-split (v ∷ vs) w e le =
         ∙ ap (λ xs. w ∷ xs)
         (sym (filter-rest (λ (x : Waiter). x.client == w.client) vs none))
 
--- a queue in which one waits has a first
+-- a queue with a waiter has a first one
 pub some-first : (ws : List Waiter) → 0 < length ws → IsSome (head_of ws)
 some-first [] e = absurd (omega (arith, e))
 some-first (w ∷ ws) e = refl
 
--- a queue in which nobody waits is empty
+-- a queue without waiters is empty
 pub none-left : (ws : List Waiter) → length ws ≡ 0 → ws ≡ []
 none-left [] e = refl
 none-left (w ∷ ws) e = absurd (omega (arith, e))
 
--- what the first of a queue is answered comes first
+-- the answer to the first waiter of a queue comes first
 pub serial-first : (k : ℕ) (w : Waiter) (left : List Waiter)
     → with_serial (map (passed_to k) (w ∷ left))
     ≡ answer_to k (length left == 0) w ∷ with_serial (map (passed_to k) left)
@@ -106,7 +107,7 @@ serial-first k w (v ∷ vs) =
     ap (λ b. answer_to k b w ∷ with_serial (map (passed_to k) (v ∷ vs)))
     (sym (ne_eqb (length (v ∷ vs)) 0 (λ e. omega (arith, e))))
 
--- the queue's first was answered, and has left it
+-- the first waiter of the queue was answered, and has left it
 pub told-first : (k : ℕ) (last : Bool) (now then : List Answered) (ws left : List Waiter)
     (w : Waiter) → last ≡ (length left == 0) → then ≡ now ++ answer_to k last w ∷ []
     → ws ≡ w ∷ left
@@ -119,7 +120,7 @@ told-first k last now then ws left w ends is split =
     ∙ (ap (λ ts. now ++ ts) (sym (serial-first k w left))
     ∙ ap (λ vs. now ++ with_serial (map (passed_to k) vs)) (sym split))))
 
--- the queue that was emptied is empty, and the others are as they were
+-- the queue that was emptied is empty, and the others are unchanged
 pub emptied-one : (b q : ℕ) (queue old : ℕ → List Waiter) → queue b ≡ []
     → ((r : ℕ) → (b == r) ≡ false → queue r ≡ old r) → queue q ≡ cond (b == q) [] (old q)
 emptied-one b q queue old none others = go (b == q) refl

@@ -1,4 +1,4 @@
--- Rows of objects that differ in nothing but the chains that they are in.
+-- Rows of objects that differ only in the chains that they are in.
 use Rattle.std.proofs.Common.{◌≡◌, ◌∙◌, ℕ, ◌<◌, List, [], ◌∷◌, length, Option, Some, None}
 use Rattle.std.proofs.Common.{option_map, refl, sym, ap, subst, cond, nat_eq}
 use Rattle.std.specs.List.{AllByRecursion as Each}
@@ -59,7 +59,7 @@ module _ {A : Type 0} where
     same-once o =
         names-bare new (subst NamesOnce (sym e) (names-map bare (λ x. refl) old o))
 
-    -- an object that is written then is written over the rows as they were
+    -- an object that is written afterwards is written to the old rows as well
     pub written-relinked : (last : List (ObjectRow (Object A))) (o : ℕ) (x : Object A)
         → WritesObject new last o x → WritesObject old last o x
     written-relinked last o x w = record {
@@ -70,7 +70,7 @@ module _ {A : Type 0} where
       once = λ n. w.once (same-once n);
     }
 
-    -- the rows are those of the objects that exist still
+    -- the rows are still those of the objects that exist
     pub objects-relinked : (h : History) → AreObjects h old → AreObjects h new
     objects-relinked h a = record {
       look = record {

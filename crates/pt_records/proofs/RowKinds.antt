@@ -1,4 +1,4 @@
--- Rows that are found by their number: of which kind the object is, and what the client's row has.
+-- Rows that are found by their number: the kind of the object, and what the client's row has.
 use Rattle.std.proofs.Common.{◌≡◌, ℕ, List, Option, Some, None, sym, ap, ◌∙◌, subst}
 use Rattle.pt_mutex.specs.MutexState.{MutexState}
 use Rattle.pt_rwlock.specs.RwlockState.{RwlockState}
@@ -29,7 +29,7 @@ module _ (rows : List (ClientRow Caller)) (n m : ℕ) (same : n ≡ m) where
       → client_value rows m ≡ Some v → u ≡ v
   client-one u found v e = some_same u v (found ∙ (ap (client_value rows) same ∙ e))
 
-  -- one that owns no mutex is the head of no chain
+  -- the chain of a client that owns no mutex has no head
   pub no-head : (u : Caller) → Some u ≡ client_value rows n → u.owned ≡ None → (v : Caller)
       → client_value rows m ≡ Some v → (head : ℕ) → v.owned ≡ Some head → ⊥
   no-head u found none v e head is =
@@ -63,7 +63,7 @@ module _ {A : Type 0} (rows : List (ObjectRow (Object A))) (n m : ℕ) (same : n
     pub object-found : (x : Object A) → kept ≡ x → object_value rows m ≡ Some x
     object-found x is = sym (found ∙ ap (object_value rows) same) ∙ ap Some is
 
-    -- what is said of the lock and of what came of it
+    -- what holds of the lock and of the lock that it became
     pub lock-changed : (Q : RwlockState → RwlockState → Type 0) (f : RwlockState → RwlockState)
         (u y : RwlockState) → kept ≡ Rwlock u → y ≡ f u → Q u y → (x : RwlockState)
         → object_value rows m ≡ Some (Rwlock x) → Q x (f x)

@@ -10,13 +10,13 @@ use Rattle.pt_records.specs.declared.clients.Caller.{Caller}
 use Rattle.pt_records.specs.declared.clients.Open.{Open}
 use Rattle.pt_records.specs.Callers.{open_in, opens_of}
 
--- a test of the first of some calls, or of those after it
+-- a test passes for some calls if it does for the first, or for one after it
 any-first : (q : Open → Bool) (first : Option Open) (os : List Open)
     → list_any q (cons_option first os) ≡ (passes q first || list_any q os)
 any-first q None os = refl
 any-first q (Some o) os = refl
 
--- one of two tests decides
+-- if the second of two tests passes, one does
 or_right : (a b : Bool) → b ≡ true → (a || b) ≡ true
 or_right true b e = refl
 or_right false b e = e
@@ -25,7 +25,7 @@ or_right false b e = e
 or_false : (a b : Bool) → a ≡ false → b ≡ false → (a || b) ≡ false
 or_false a b e f = rw e f
 
--- an open call in some row passes
+-- some row's open call passes
 pub any-at : (q : Open → Bool) (rows : List (ClientRow Caller)) (i : ℕ)
     → passes q (open_in (nth_value rows i)) ≡ true → list_any q (opens_of rows) ≡ true
 any-at q [] i e = cc
@@ -34,7 +34,7 @@ any-at q (x ∷ rows) (suc i) e =
     any-first q x.value.open (opens_of rows)
     ∙ or_right (passes q x.value.open) (list_any q (opens_of rows)) (any-at q rows i e)
 
--- the open call in no row passes
+-- no row's open call passes
 pub any-nowhere : (q : Open → Bool) (rows : List (ClientRow Caller))
     → ((k : ℕ) → k < length rows → passes q (open_in (nth_value rows k)) ≡ false)
     → list_any q (opens_of rows) ≡ false
@@ -44,7 +44,7 @@ any-nowhere q (x ∷ rows) f =
     ∙ or_false (passes q x.value.open) (list_any q (opens_of rows)) (f 0 (omega arith))
     (any-nowhere q rows (λ k lt. f (suc k) (omega arith)))
 
--- the open call in some row is one of those in the rows
+-- the open call of some row is one of those in the rows
 pub nth-in : (rows : List (ClientRow Caller)) (i : ℕ) (o : Open)
     → open_in (nth_value rows i) ≡ Some o → In o (opens_of rows)
 nth-in [] i o e = absurd cc

@@ -1,4 +1,4 @@
--- Answers in short: they stay readable as more come, and what a log reads of them.
+-- Short answers: they stay readable as more come, and a log is read off them.
 use Rattle.std.proofs.Common.{ℕ, zero, suc, ◌≡◌, ◌-◌, List, [], ◌∷◌, ◌++◌, length}
 use Rattle.std.proofs.Common.{take, drop, slice_index_or, refl, sym, ap, ◌∙◌, arith, subst}
 use Rattle.std.proofs.Common.{length-append, length-drop, ◌+◌, Vec, vec_len, vec_capacity}
@@ -12,12 +12,12 @@ use Rattle.pt_records.specs.declared.short.Short.TheVariants.{Near, Whole}
 use Rattle.pt_records.specs.AnswerLogs.{lengthened, lengthened_all, IsThere, AreReadable}
 use Rattle.pt_records.specs.AnswerLogs.{Shortens, ShortensAlone, no_answer}
 
--- what a short answer refers to stays there, as more answers are stored whole
+-- what a short answer refers to stays there as more answers are stored whole
 there-stays : (ws more : List Answered) (s : Short) → IsThere ws s → IsThere (ws ++ more) s
 there-stays ws more (Near x k c j) t = tt
 there-stays ws more (Whole i) t = omega (arith, t, length-append ws more)
 
--- and it is the same answer
+-- the answer is still the same
 same-stays : (b : ℕ) (ws more : List Answered) (s : Short) → IsThere ws s
     → lengthened b (ws ++ more) s ≡ lengthened b ws s
 same-stays b ws more (Near x k c j) t = refl
@@ -77,7 +77,7 @@ shortens-whole b a old new i e grown len cap = record {
   capacity = cap;
 }
 
--- all but the first
+-- all short answers but the first
 pub readable-tail : (b : ℕ) (ws : List Answered) (s : Short) (shorts : List Short)
     → AreReadable b ws (s ∷ shorts) → AreReadable b ws shorts
 readable-tail b ws s shorts r = record {

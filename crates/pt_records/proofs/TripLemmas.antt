@@ -42,7 +42,7 @@ passed-climbs : (k n : ℕ) (ws : List WaitingCall) → Ascends n ws → Climbs 
 passed-climbs k n [] a = tt
 passed-climbs k n (w ∷ ws) a = (a.0, passed-climbs k (suc w.place) ws a.1)
 
--- a call has the answer of its waiter
+-- a call gets the same answer as its waiter
 passed-same : (k : ℕ) (w : WaitingCall) (v : Waiter) → WaitsAs w v → passed_to k v ≡ passed_at k w
 passed-same k w v e = ap (to v.place) e.0 ∙ ap (λ n. to n w.client) e.1
   where
@@ -50,7 +50,8 @@ passed-same k w v e = ap (to v.place) e.0 ∙ ap (λ n. to n w.client) e.1
     to n c = record { at = k; client = c; place = n; outcome = Done }
 
 module _ (h : History) (b k : ℕ) (vs : List Waiter) (a : AreArrivals h b vs) where
-  -- the waiters at the barrier have the answers of the calls there, and the other way round
+  -- the waiters at the barrier get the answers of the calls there, and the calls those of the
+  -- waiters
   waiter-passed : (x : Answered) → In x (map (passed_to k) vs)
       → In x (map (passed_at k) (at_barrier b (open_calls h)))
   waiter-passed x i =
@@ -69,7 +70,7 @@ module _ (h : History) (b k : ℕ) (vs : List Waiter) (a : AreArrivals h b vs) w
       (sym (found.1.1 ∙ sym (passed-same k found.0 own.0 own.1.1)))
       (map-in (passed_to k) vs own.0 own.1.0)
 
--- in order of places, and with the last one serial, these are a Trip's answers
+-- in order of places, and with SERIAL for the last, these are the answers of a Trip
 serial-told : (k : ℕ) (ws : List WaitingCall)
     → map logged (with_serial (map (passed_at k) ws)) ≡ told_at k (told_by_trip ws)
 serial-told k [] = refl
@@ -111,7 +112,7 @@ arrivals-room h b k vs a once =
           (λ n. arrivals-lone h b k n vs once a.known) (waiter-passed h b k vs a),
     )
 
--- the rows that were closed by some of these answers are still to be closed by the rest
+-- rows that some of these answers have closed, and that the rest will close
 pub record ClosedSoFar (old now : List (ClientRow Caller)) (ts rest : List Answered) : Type 0 where
   pub look : (d : ℕ) → option_map (closed_by_all d rest) (client_value now d)
       ≡ option_map (closed_by_all d ts) (client_value old d)
@@ -175,7 +176,7 @@ closed-logged d [] v = refl
 closed-logged d (a ∷ ts) v =
     closed-logged d ts (cond (a.client == d) (closed (Some a.outcome) v) v)
 
--- a row after an answer to it, if there is one
+-- a row after an answer to its call, if there is one
 abbrev closed_if : Option Told → Caller → Caller
 closed_if None v = v
 closed_if (Some t) v = closed (Some t.outcome) v
@@ -190,7 +191,7 @@ closed-none k d (w ∷ ws) v f =
     (cond t (closed (Some (trip_outcome ws)) v) v)) (ne_eqb w.client d (f w (inl refl)))
     ∙ closed-none k d ws v (λ u i e. f u (inr i) e)
 
--- a client with one gets the last answer to it
+-- a client with a call there gets the last answer to it
 closed-one : (k d j : ℕ) (ws : List WaitingCall) (v : Caller)
     → ((w : WaitingCall) → In w ws → (w.client == d) ≡ (w.place == j))
     → closed_log d (told_at k (told_by_trip ws)) v
@@ -213,7 +214,7 @@ closed-one k d j (w ∷ ws) v f =
     go (Some t) true y e = refl
     go (Some t) false y e = refl
 
--- each call at the barrier has an answer
+-- each call at the barrier gets an answer
 told-some : (k : ℕ) (ws : List WaitingCall) (w : WaitingCall) → In w ws
     → last_to (told_at k (told_by_trip ws)) w.place ≡ None → ⊥
 told-some k [] w i e = absurd i
@@ -243,7 +244,7 @@ module _ (h : History) (rows : List (ClientRow Caller)) (b : ℕ) (f : Follows h
   abbrev pub tripped : List WaitingCall
   tripped = at_barrier b (open_calls h)
 
-  -- what they are answered
+  -- the answers to these calls
   abbrev pub trip_log : List (ℕ × Told)
   trip_log = told_at (place h) (told_by_trip (at_barrier b (open_calls h)))
 
@@ -256,7 +257,7 @@ module _ (h : History) (rows : List (ClientRow Caller)) (b : ℕ) (f : Follows h
       sym (ap (λ (x : Option Caller). call_in x) e) ∙ (a.look.calls d
       ∙ (ap (call_of (open_calls h)) (sym c) ∙ call_of-open h f w part.0))
 
-  -- so its row is closed by its answer
+  -- so the answer to that call closes the row
   closes-row : (d : ℕ) (v : Caller) → client_value rows d ≡ Some v → (first : Option Open)
       → v.open ≡ first → (t : Bool) → passes (arrived_at b) first ≡ t
       → closed_log d trip_log v
@@ -315,7 +316,7 @@ module _ (h : History) (rows : List (ClientRow Caller)) (b : ℕ) (f : Follows h
           (sym (ap said_by (last_to-append old trip_log o.call.place
           ∙ ap (λ x. option_or x (last_to old o.call.place)) l)))
 
-  -- each call at the barrier is closed with its answer in the log, and the other rows stay
+  -- each call at the barrier is closed with its answer in the log, and the other rows are unchanged
   pub closes-rewrites : (new : List (ClientRow Caller)) (ts : List Answered)
       (log : List (ℕ × Told)) → map logged ts ≡ trip_log → log ≡ old ++ trip_log
       → ClosesBy rows new ts → RewritesCallers rows new (closed_at b log)

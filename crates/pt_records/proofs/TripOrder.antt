@@ -22,7 +22,7 @@ climbs-late n [] a c i = absurd i
 climbs-late n (b ∷ bs) a c (inl e) = subst (λ (x : Answered). n ≤ x.place) (sym e) c.0
 climbs-late n (b ∷ bs) a c (inr i) = omega (arith, c.0, climbs-late (suc b.place) bs a c.1 i)
 
--- two such lists of the same answers are one
+-- two such lists with the same answers are equal
 pub climbs-same : (m n : ℕ) (xs ys : List Answered) → Climbs m xs → Climbs n ys
     → ((a : Answered) → In a xs → In a ys) → ((a : Answered) → In a ys → In a xs) → xs ≡ ys
 climbs-same m n [] [] c d there back = refl
@@ -86,7 +86,7 @@ others-fewer m n (a ∷ ts) = go (a.place == n) (others-fewer m n ts)
     go true ih = omega (arith, ih)
     go false ih = omega (arith, ih)
 
--- answers to calls that each have one are no more than those that have them all
+-- a list with at most one answer to each call is no longer than a list with all those answers
 pub lone-length : (xs ys : List Answered) → ((n : ℕ) → to_place n xs ≤ 1)
     → ((a : Answered) → In a xs → In a ys) → length xs ≤ length ys
 lone-length [] [] lone there = omega arith
@@ -133,7 +133,7 @@ counts n (a ∷ ts) x (inl same) e =
     rw (eq-eqb a.place n here) (omega arith)
 counts n (a ∷ ts) x (inr i) e = omega (arith, counts n ts x i e)
 
--- answers to waiters in order of places, of which no two have one place
+-- answers to waiters in order of places, no two of which have the same place
 pub order-climbs : (k n : ℕ) (vs : List Waiter) → AreInOrder vs
     → ((m : ℕ) → to_place m (map (passed_to k) vs) ≤ 1)
     → Each (λ v. n ≤ v.place) vs → Climbs n (map (passed_to k) vs)

@@ -1,4 +1,4 @@
--- Rows of clients that differ in nothing but the mutexes that they own.
+-- Rows of clients that differ only in the mutexes that they own.
 use Rattle.std.proofs.Common.{◌≡◌, ◌∙◌, ℕ, Bool, true, false, cond, nat_eq, List, [], ◌∷◌, Option}
 use Rattle.std.proofs.Common.{Some, option_map, refl, ap}
 use Rattle.std.proofs.lemmas.Bool.{eqb-true}
@@ -11,7 +11,7 @@ use Rattle.pt_records.proofs.RowLemmas.{Apart}
 use Rattle.pt_records.proofs.CallerWrites.{number_in, value_in, apart-once}
 use Rattle.pt_records.proofs.CallerScans.{with-none}
 
--- another head that is written to a client's row changes nothing else
+-- writing another head to a client's row changes nothing else
 pub unowned-with : (rows : List (ClientRow Caller)) (c : ℕ) (u : Caller) (head : Option ℕ)
     → Once rows → Some u ≡ client_value rows c
     → unowned (with_client rows c (record u { owned = head })) ≡ unowned rows

@@ -1,4 +1,4 @@
--- Ends: what is answered of the open calls when they are looked at one by one, from their end.
+-- Ends: what is known of the open calls when they are looked at one by one, from their end.
 use Rattle.std.proofs.Common.{◌≡◌, ℕ, suc, inl, inr, ◌+◌, ◌-◌, ◌<◌, Bool, true, false, cond, List}
 use Rattle.std.proofs.Common.{[], ◌∷◌, ◌++◌, Option, Some, None, refl, sym, ap, ◌∙◌, filter, length}
 use Rattle.std.proofs.Common.{length-append, take, get_or, arith}
@@ -31,7 +31,7 @@ filter-listed p (Some w) ws = go (p w)
     go true = refl
     go false = refl
 
--- one call more
+-- the calls that pass a test, with one more call
 filter-less :
     (h : History) (p : WaitingCall → Bool) (i : ℕ) → 0 < i
     → filter p (from (i - 1) (open_calls h))
@@ -46,7 +46,7 @@ least-listed :
 least-listed before None ws = refl
 least-listed before (Some w) ws = refl
 
--- the least of one call more
+-- the least, with one more call
 pub least-less :
     (h : History) (before : WaitingCall → WaitingCall → Bool) (p : WaitingCall → Bool) (i : ℕ)
     → 0 < i
@@ -64,7 +64,7 @@ bound-listed :
 bound-listed None ws = refl
 bound-listed (Some w) ws = refl
 
--- the mutex of the first of one call more
+-- the mutex of the first, with one more call
 pub bound-less :
     (h : History) (p : WaitingCall → Bool) (i : ℕ) → 0 < i
     → bound_by (filter p (from (i - 1) (open_calls h)))
@@ -74,7 +74,7 @@ bound-less h p i lt =
     ap bound_by (filter-less h p i lt)
     ∙ bound-listed (keep p (at_place (i - 1) (open_calls h))) (filter p (from i (open_calls h)))
 
--- how many pass a test, of one call more
+-- how many calls pass a test, with one more call
 pub length-more :
     (h : History) (q : WaitingCall → Bool) (i : ℕ)
     → length (filter q (upto (i + 1) (open_calls h)))
@@ -95,24 +95,24 @@ length-more h q i =
         pick true = refl
         pick false = refl
 
--- where it passes
+-- if that call passes
 pub length_yes :
     (h : History) (q : WaitingCall → Bool) (i : ℕ) → passes q (at_place i (open_calls h)) ≡ true
     → length (filter q (upto (i + 1) (open_calls h)))
     ≡ length (filter q (upto i (open_calls h))) + 1
 length_yes h q i e = length-more h q i ∙ rw e refl
 
--- where it fails
+-- if it fails
 pub length_no :
     (h : History) (q : WaitingCall → Bool) (i : ℕ) → passes q (at_place i (open_calls h)) ≡ false
     → length (filter q (upto (i + 1) (open_calls h))) ≡ length (filter q (upto i (open_calls h)))
 length_no h q i e = length-more h q i ∙ rw e (omega arith)
 
--- of none
+-- no calls are before place 0
 pub upto_none : (h : History) → upto 0 (open_calls h) ≡ []
 upto_none h = upto-before 0 0 (open_calls h) (open-ascends h) (omega arith)
 
--- of all
+-- all calls are before the end
 pub upto_end :
     (es : List Entry)
     → upto (length es) (open_calls (history es)) ≡ open_calls (history es)
@@ -146,7 +146,7 @@ pub open_none :
     (h : History) (i : ℕ) → None ≡ at_place i (stood h) → None ≡ at_place i (open_calls h)
 open_none h i e = sym (at_place_open h i ∙ ap (keep (is_open_by h (outcome h))) (sym e))
 
--- the call of one entry more
+-- the call that one more entry leaves waiting
 pub stood_new :
     (es : List Entry) (e : Entry) (o : Option WaitingCall) (i : ℕ)
     → listed o ≡ stood_by (history es) e → i ≡ length es
@@ -156,7 +156,7 @@ stood_new es e o i is same =
     let k : place h ≡ i = omega (arith, place_all es) in
     at_place-here h e [] o is ∙ ap (λ j. at_place j (stood (h ▷ e))) k
 
--- those before it
+-- the calls that earlier entries left waiting
 pub stood_old :
     (es : List Entry) (e : Entry) (i : ℕ) → (i ≡ length es → ⊥)
     → at_place i (stood (history es)) ≡ at_place i (stood (history es ▷ e))
@@ -177,7 +177,7 @@ stood_old es e i other =
           (stood (h ▷ e)) (stood-below (h ▷ e))))
     ]
 
--- the history of one entry more
+-- the history of one more entry
 pub one_more :
     (es : List Entry) (i : ℕ) (d : Entry) → i < length es
     → history (take (i + 1) es) ≡ history (take i es) ▷ get_or es i d

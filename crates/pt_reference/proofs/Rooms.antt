@@ -32,7 +32,7 @@ reserved-append h vs o =
     go None = refl
     go (Some w) = omega arith
 
--- one call more
+-- with one more call
 pub reserved_more :
     (h : History) (i : ℕ)
     → sum (map (reserved_for h) (upto (i + 1) (open_calls h)))
@@ -41,12 +41,12 @@ reserved_more h i =
     ap (reserved_for_all h) (upto_more i 0 (open_calls h) (open-ascends h))
     ∙ reserved-append h (upto i (open_calls h)) (at_place i (open_calls h))
 
--- none
+-- for no calls
 pub reserved_none : (h : History) → sum (map (reserved_for h) (upto 0 (open_calls h))) ≡ 0
 reserved_none h =
     ap (reserved_for_all h) (upto-before 0 0 (open_calls h) (open-ascends h) (omega arith))
 
--- all, after one more entry
+-- for all calls, after one more entry
 pub reserved_end :
     (es : List Entry) (e : Entry) (n : ℕ) → n ≡ length es + 1
     → sum (map (reserved_for (history es ▷ e)) (upto n (open_calls (history es ▷ e))))
@@ -58,17 +58,17 @@ reserved_end es e n is =
     (Each-weaker (λ w. w.place < place h) (λ w. w.place < n)
     (λ w lt. omega (arith, place_all es)) (open_calls h) (open-below h)))
 
--- one number more, which passes
+-- the count with one more number, which passes
 pub count_yes :
     (test : ℕ → Bool) (i : ℕ) → test i ≡ true → count_below (i + 1) test ≡ count_below i test + 1
 count_yes test i e = ap (λ n. count_below n test) (add-one i) ∙ rw e (omega arith)
 
--- one number more, which fails
+-- the count with one more number, which fails
 pub count_no :
     (test : ℕ → Bool) (i : ℕ) → test i ≡ false → count_below (i + 1) test ≡ count_below i test
 count_no test i e = ap (λ n. count_below n test) (add-one i) ∙ rw e (omega arith)
 
--- all, after one more entry
+-- the count of all numbers, after one more entry
 pub count_end :
     (es : List Entry) (test : ℕ → Bool) (n : ℕ) → n ≡ length es + 1
     → count_below n test ≡ count_below (suc (place (history es))) test
@@ -76,7 +76,7 @@ count_end es test n is =
     let e : n ≡ suc (place (history es)) = omega (arith, place_all es) in
     ap (λ k. count_below k test) e
 
--- the history of all entries is that of all but the last, and the last
+-- the history of all entries is that of all but the last, with the last added
 pub history_last :
     (es : List Entry) (n : ℕ) (e : Entry) → n + 1 ≡ length es → e ≡ get_or es n e
     → history (take n es) ▷ e ≡ history es

@@ -44,7 +44,7 @@ before-before i n (t ∷ ts) a le =
     rw (le-ltb t.place i (omega (arith, a.0)))
     (before-before i (suc t.place) ts a.1 (omega (arith, a.0)))
 
--- the answers to calls before one place more
+-- the answers to calls before the next place
 pub told-more :
     (j n : ℕ) (ts : List Told) → Climbs n ts
     → told_before (j + 1) ts ≡ told_before j ts ++ listed (told_to j ts)
@@ -124,7 +124,7 @@ kept-some p (Some v) w e = go (p v) e
     go true k = k
     go false k = absurd cc
 
--- who stands at a barrier is the client of the call at that place
+-- a Trip answers the client of the call at a place
 trip-client :
     (h : History) (b j : ℕ)
     → told_if (client_if (at_place j (at_barrier b (open_calls h)))) j
@@ -156,7 +156,7 @@ trip-client h b j = go (at_place j ws) refl
     go (Some w) e =
         ap (λ o. told_if (client_if o) j (outcome_in (told_by_trip ws) j)) (e ∙ sym (found w e))
 
--- the answer to the call at a place says its outcome to its client
+-- the answer to the call at a place gives its outcome to its client
 pub told_at_place :
     (h : History) (e : Entry) (j : ℕ)
     → told_to j (told h e) ≡ told_if (client_told h e j) j (outcome_in (told h e) j)

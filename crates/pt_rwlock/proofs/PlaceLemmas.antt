@@ -61,12 +61,12 @@ above-none c (e ∷ es) above =
     ap (λ o. cond (is_eq o) (Some e.1) (lookup (is_at (nat_cmp c)) es)) above.0
     ∙ above-none c es above.1
 
--- a place past a row of a lower client
+-- the place of a client is past a row of a lower client
 place-past : (e : ℕ × ℕ) (es : List (ℕ × ℕ)) (c : ℕ) → e.0 < c
     → place_in (e ∷ es) c ≡ suc (place_in es c)
 place-past e es c less = ap (λ b. cond b (suc (place_in es c)) 0) (lt-ltb e.0 c less)
 
--- the place at any other row
+-- and is 0 if the first row is of any other client
 place-here : (e : ℕ × ℕ) (es : List (ℕ × ℕ)) (c : ℕ) → c ≤ e.0 → place_in (e ∷ es) c ≡ 0
 place-here e es c most = ap (λ b. cond b (suc (place_in es c)) 0) (le-ltb e.0 c most)
 
@@ -99,7 +99,7 @@ other-behind (e ∷ es) c (suc i) d inside most =
     go true tail = omega (arith, tail)
     go false tail = omega arith
 
--- there are no more rows than that before it
+-- the place is at most the number of rows
 pub place-most : (rows : List (ℕ × ℕ)) (c : ℕ) → place_in rows c ≤ length rows
 place-most [] c = omega arith
 place-most (e ∷ es) c = go (nat_lt e.0 c) (place-most es c)
@@ -109,7 +109,7 @@ place-most (e ∷ es) c = go (nat_lt e.0 c) (place-most es c)
     go true tail = omega (arith, tail)
     go false tail = omega arith
 
--- a row of the client, if it is one
+-- a row that has reads of the client is the client's own
 own-is : (rows : List (ℕ × ℕ)) (c i : ℕ) → IsSome (reads_for c (slice_get rows i))
     → (i < length rows) × ((d : ℕ × ℕ) → (get_or rows i d).0 ≡ c)
 own-is [] c i own = cc
@@ -119,7 +119,7 @@ own-is (e ∷ es) c zero own = elim (eqb_tells e.0 c) [
 ]
 own-is (e ∷ es) c (suc i) own = let tail = own-is es c i own in (omega (arith, tail.0), tail.1)
 
--- it is in the place
+-- and it is at the client's place
 pub own-there : (rows : List (ℕ × ℕ)) (c i : ℕ) → IsInOrder rows
     → IsSome (reads_for c (slice_get rows i)) → i ≡ place_in rows c
 own-there [] c i ordered own = cc
@@ -133,7 +133,7 @@ own-there (e ∷ es) c (suc i) ordered own =
     ap suc (own-there es c i (sorted_tail nat_cmp e.0 (keys_of es) ordered) own)
     ∙ sym (place-past e es c (omega (arith, same, front)))
 
--- what is found at a row with one that follows
+-- what is found in a row and those that follow it
 found-at : (e : ℕ × ℕ) (es : List (ℕ × ℕ)) (c : ℕ) (o : Ordering) → nat_cmp c e.0 ≡ o
     → lookup (is_at (nat_cmp c)) (e ∷ es)
     ≡ cond (is_eq o) (Some e.1) (lookup (is_at (nat_cmp c)) es)
@@ -146,7 +146,7 @@ none-before e es c ordered less =
     found-at e es c Less (lt-less c e.0 less)
     ∙ above-none c es (above-lower c e.0 es less (sorted_head nat_cmp e.0 (keys_of es) ordered))
 
--- the client's row is found in the place
+-- the client's row is found at its place
 pub found : (rows : List (ℕ × ℕ)) (c : ℕ) → IsInOrder rows
     → lookup (is_at (nat_cmp c)) rows ≡ reads_for c (slice_get rows (place_in rows c))
 found [] c ordered = refl
@@ -181,7 +181,7 @@ pub found-own : (rows : List (ℕ × ℕ)) (c : ℕ) → IsInOrder rows
 found-own rows c ordered some =
     (own-is rows c (place_in rows c) (sym (ap is_some (found rows c ordered)) ∙ some)).1
 
--- the row in the place is changed
+-- the row at the place is changed
 pub set-there : (rows : List (ℕ × ℕ)) (c n : ℕ) → IsInOrder rows
     → IsSome (lookup (is_at (nat_cmp c)) rows)
     → set rows (place_in rows c) (c, n) ≡ set_value (is_at (nat_cmp c)) rows n
@@ -211,7 +211,7 @@ set-there (e ∷ es) c n ordered some = elim (cases_lt e.0 c) [
     written is =
         ap (λ o. cond (is_eq o) ((e.0, n) ∷ es) (e ∷ set_value (is_at (nat_cmp c)) es n)) is
 
--- a row is added in the place
+-- a row is added at the place
 pub insert-there : (rows : List (ℕ × ℕ)) (c n : ℕ) → IsInOrder rows
     → lookup (is_at (nat_cmp c)) rows ≡ None
     → insert rows (place_in rows c) (c, n) ≡ insert_entry nat_cmp rows c n
@@ -239,7 +239,7 @@ insert-there (e ∷ es) c n ordered none = elim (cases_lt e.0 c) [
     written is = ap (λ o. match_ordering o ((c, n) ∷ e ∷ es) ((e.0, n) ∷ es)
         (e ∷ insert_entry nat_cmp es c n)) is
 
--- rows stay above a client as one above it is added
+-- rows stay above a client when a row above it is added
 above-inserted : (b c n : ℕ) (rows : List (ℕ × ℕ)) → b < c → AreAbove b rows
     → AreAbove b (insert_entry nat_cmp rows c n)
 above-inserted b c n [] less above = (lt-less b c less, tt)
@@ -253,7 +253,7 @@ above-inserted b c n (e ∷ es) less above =
     go Equal tail = above
     go Greater tail = (above.0, tail)
 
--- rows stay in order as one is added
+-- rows stay in order when one is added
 pub order-inserted : (rows : List (ℕ × ℕ)) (c n : ℕ) → IsInOrder rows
     → IsInOrder (insert_entry nat_cmp rows c n)
 unfolding IsStrictlySortedBy
@@ -270,7 +270,7 @@ order-inserted (e ∷ es) c n ordered =
     go Greater is tail =
         (above-inserted e.0 c n es (greater-gt c e.0 is) ordered.0, tail)
 
--- and as one is changed
+-- and when one is changed
 pub order-set : (rows : List (ℕ × ℕ)) (c n : ℕ) → IsInOrder rows
     → IsInOrder (set_value (is_at (nat_cmp c)) rows n)
 order-set rows c n ordered =
@@ -287,7 +287,7 @@ is-own c other = elim (eqb_tells c other) [
       ]
 ]
 
--- a client is not one if it is another
+-- a client that equals one of two that differ isn't the other
 not-both : (c e other : ℕ) → (c ≡ e → ⊥) → is_eq (nat_cmp other e) ≡ true
     → (c == other) ≡ false
 not-both c e other differ is = elim (eqb_tells c other) [
@@ -311,7 +311,7 @@ choice-past : {X : Type 0} (b o : Bool) (x y z w : X) → (b ≡ true → o ≡ 
 choice-past true o x y z w apart is = sym (ap (λ o. cond o y x) (apart refl))
 choice-past false o x y z w apart is = is
 
--- what is found once a row is added
+-- what is found after a row is added
 pub lookup-inserted : (rows : List (ℕ × ℕ)) (c n other : ℕ)
     → lookup (is_at (nat_cmp other)) (insert_entry nat_cmp rows c n)
     ≡ cond (c == other) (Some n) (lookup (is_at (nat_cmp other)) rows)
@@ -338,7 +338,7 @@ lookup-inserted (e ∷ es) c n other =
         (not-both c e.0 other (λ same. let more = greater-gt c e.0 is in omega (arith, same, more)))
         tail
 
--- what is found once a row is changed
+-- what is found after a row is changed
 pub lookup-set : (rows : List (ℕ × ℕ)) (c n other : ℕ) → IsSome (lookup (is_at (nat_cmp c)) rows)
     → lookup (is_at (nat_cmp other)) (set_value (is_at (nat_cmp c)) rows n)
     ≡ cond (c == other) (Some n) (lookup (is_at (nat_cmp other)) rows)
@@ -362,12 +362,12 @@ lookup-set (e ∷ es) c n other some = elim (eqb_tells c e.0) [
       (not-both c e.0 other apart.1) (lookup-set es c n other (sym left ∙ some))
 ]
 
--- no rows are in order
+-- an empty list of rows is in order
 pub order-none : (rows : List (ℕ × ℕ)) → rows ≡ [] → IsInOrder rows
 unfolding IsStrictlySortedBy
 order-none rows none = subst (λ rows. IsStrictlySortedBy nat_cmp (keys_of rows)) (sym none) tt
 
--- what is found at the place of a client, among rows that are these
+-- what is found at the place of a client, in rows that are equal to these
 pub found-there : (inside now : List (ℕ × ℕ)) (c place : ℕ) → inside ≡ now → IsInOrder inside
     → place ≡ place_in now c
     → reads_for c (slice_get inside place) ≡ lookup (is_at (nat_cmp c)) now
@@ -376,7 +376,7 @@ found-there inside now c place same ordered at =
     ∙ ap (λ rows. reads_for c (slice_get rows (place_in now c))) same
     ∙ sym (found now c (subst IsInOrder same ordered))
 
--- what a place has that is the client's is found there
+-- what a row at any index has of the client is what a look-up finds
 pub hinted-reads : (rows : List (ℕ × ℕ)) (c i : ℕ) (r : Option ℕ) → IsInOrder rows
     → r ≡ reads_for c (slice_get rows i)
     → IfSome r (λ reads. lookup (is_at (nat_cmp c)) rows ≡ Some reads)

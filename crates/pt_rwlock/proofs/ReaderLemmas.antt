@@ -1,4 +1,4 @@
--- ReaderLemmas: how many rows have read locks, as a row is added or changed.
+-- ReaderLemmas: how many rows have read locks, when a row is added or changed.
 use Rattle.std.proofs.Common.{ℕ, suc, Bool, ◌≡◌, ◌≢◌, ◌+◌, ◌-◌, inl, inr, ◌<◌, ◌≤◌, ◌||◌, true}
 use Rattle.std.proofs.Common.{false, cond, nat_lt, List, [], ◌∷◌, Option, Some, None, is_some}
 use Rattle.std.proofs.Common.{length, refl, sym, ap, ◌∙◌, arith}
@@ -20,7 +20,7 @@ one_if_read n = cond (nat_lt 0 n) 1 0
 read-one : (n : ℕ) → 0 < n → one_if_read n ≡ 1
 read-one n some = ap (λ b. cond b 1 0) (lt-ltb 0 n some)
 
--- one read lock less counts only where it was the only one
+-- one read lock less makes a difference only if it was the only one
 read-alike : (n : ℕ) → (n ≡ 1 → ⊥) → one_if_read n ≡ one_if_read (n - 1)
 read-alike n other = elim (eqb_tells n 0) [
   | inl none ↦
@@ -33,7 +33,7 @@ read-alike n other = elim (eqb_tells n 0) [
       read-one n (omega arith) ∙ sym (read-one (n - 1) left)
 ]
 
--- a row that is changed
+-- the count after a row is changed
 pub readers-set : (c n m : ℕ) (rows : List (ℕ × ℕ)) → lookup (is_at (nat_cmp c)) rows ≡ Some n
     → readers_in (set_value (is_at (nat_cmp c)) rows m) + one_if_read n
     ≡ readers_in rows + one_if_read m
@@ -53,7 +53,7 @@ readers-set c n m (e ∷ es) at = go (is_at (nat_cmp c) e.0) at (readers-set c n
         omega (arith, worth)
     go false at ih = omega (arith, ih at)
 
--- a new row has none
+-- a new row has no read locks
 pub readers-new : (c : ℕ) (rows : List (ℕ × ℕ)) → lookup (is_at (nat_cmp c)) rows ≡ None
     → readers_in (insert_entry nat_cmp rows c 0) ≡ readers_in rows
 readers-new c [] none = refl
@@ -70,7 +70,7 @@ readers-new c (e ∷ es) none = go (nat_cmp c e.0) none (readers-new c es)
     go Equal none ih = cc
     go Greater none ih = ap (λ k. one_if_read e.1 + k) (ih none)
 
--- there are some where a row has read locks
+-- the count is above zero exactly if a row has read locks
 pub readers-some : (rows : List (ℕ × ℕ))
     → nat_lt 0 (readers_in rows) ≡ list_any (λ n. nat_lt 0 n) (values_of rows)
 readers-some [] = refl
@@ -84,7 +84,7 @@ readers-some (e ∷ es) = go (nat_lt 0 e.1) (readers-some es)
         let none : 0 + readers_in es ≡ readers_in es = omega arith in
         ap (nat_lt 0) none ∙ ih
 
--- no more than there are rows
+-- the count is at most the number of rows
 pub readers-most : (rows : List (ℕ × ℕ)) → readers_in rows ≤ length rows
 readers-most [] = omega arith
 readers-most (e ∷ es) = go (nat_lt 0 e.1) (readers-most es)
@@ -94,7 +94,7 @@ readers-most (e ∷ es) = go (nat_lt 0 e.1) (readers-most es)
     go true ih = omega (arith, ih)
     go false ih = omega (arith, ih)
 
--- a row gets one read lock more
+-- the count after a row gets one more read lock
 pub readers-added : (c n count : ℕ) (old new : List (ℕ × ℕ)) → readers_in old ≡ count
     → lookup (is_at (nat_cmp c)) old ≡ Some n
     → new ≡ set_value (is_at (nat_cmp c)) old (n + 1)
@@ -112,7 +112,7 @@ readers-added c n count old new many at same =
           omega (arith, sum, seen, more, one, many)),
     )
 
--- a row gets one less
+-- the count after a row gets one less
 pub readers-taken : (c n count : ℕ) (old new : List (ℕ × ℕ)) → readers_in old ≡ count
     → lookup (is_at (nat_cmp c)) old ≡ Some n
     → new ≡ set_value (is_at (nat_cmp c)) old (n - 1)
@@ -136,7 +136,7 @@ pub none_of : (o : Option ℕ) → is_some o ≡ false → o ≡ None
 none_of None e = refl
 none_of (Some n) e = cc
 
--- whether a new row was added or refused
+-- the count stays the same whether a new row was added or refused
 pub readers-kept : {T E : Type 0} (r : Result T E) (c : ℕ) (old new : List (ℕ × ℕ))
     → lookup (is_at (nat_cmp c)) old ≡ None → OnOk r (new ≡ insert_entry nat_cmp old c 0)
     → OnErr r (new ≡ old) → readers_in new ≡ readers_in old

@@ -1,4 +1,4 @@
--- Rows as they are seen through a box and through a lock, and what results say of them.
+-- Rows as they are seen through a box and through a lock, and what results say about them.
 use Rattle.std.proofs.Common.{◌≡◌, ℕ, List, [], Option, Some, None, unwrap_or, Bool, true, Box, sym}
 use Rattle.std.proofs.Common.{ap, ◌∙◌, false, ◌&&◌, refl}
 use Rattle.std.specs.Prelude.{Result, Ok, Err, OnOk, OnErr, IfSome, IfNone}
@@ -18,7 +18,7 @@ boxed-seen {A} boxed b now seen is v e =
     unwrap_or (option_map (λ (x : Box (List (ℕ × ℕ)) A). x.value) o) []) (sym is)
     ∙ v)
 
--- what holds anyhow holds where there is a refusal
+-- what holds in any case holds for a refusal
 pub whenever-err : {T E P : Type 0} (answer : Result T E) → P → OnErr answer P
 whenever-err (Ok x) p = tt
 whenever-err (Err e) p = p
@@ -33,7 +33,7 @@ and-true : (b : Bool) → b ≡ (b && true)
 and-true true = refl
 and-true false = refl
 
--- a lock that waiting writers await, once it has a row or is the same
+-- a lock with its waiting writers, once it has a row or is unchanged
 module _ {T E : Type 0} (answer : Result T E) (old new : RwlockState) (waiting : List ℕ)
     (seen : AwaitedLock) (v : record { lock = old; waiting = waiting } ≡ seen) where
   pub row-awaited : (client : ℕ) → OnOk answer (new ≡ with_row old client)
@@ -58,7 +58,7 @@ module _ {T E : Type 0} (answer : Result T E) (old new : RwlockState) (waiting :
       go (Ok x) e = tt
       go (Err x) e = ap (λ (l : RwlockState). record { lock = l; waiting = waiting }) e ∙ v
 
--- a writer that is first may have the lock if nobody holds it
+-- a writer that is first may have the lock exactly if nobody holds it
 pub first-writes : (r : AwaitedLock) (first : Option Waiter) (w : Waiter) (free : Bool)
     → first ≡ Some w → w.writer ≡ true → free ≡ nobody_holds r.lock → (blocked : Bool)
     → IfSome first (λ x. SaysBlocked r x.prio blocked → free ≡ may_have r.lock x blocked)

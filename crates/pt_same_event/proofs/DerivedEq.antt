@@ -1,5 +1,5 @@
--- DerivedEq: a derived `==` of an enum says whether two values are equal, if those of its fields
--- say so.
+-- DerivedEq: the derived `==` of an enum says whether two values are equal, if the tests of its
+-- fields do.
 use Rattle.std.proofs.Common.{◌≡◌, Bool, true, false, ◌&&◌, List, [], ◌∷◌, refl, ap}
 use Rattle.std.specs.Bool.{Decides}
 use Rattle.std.proofs.lemmas.Bool.{false≢true}
@@ -15,7 +15,7 @@ pub record Test (A : Type 0) : Type 0 where
   pub test : A → A → Bool
   pub says : (x y : A) → Decides (test x y) (x ≡ y)
 
--- of an enum whose variants have no fields
+-- the test of an enum whose variants have no fields
 abbrev pub of_words : (D : Declared) → Bare D.parts → Test D.D
 of_words D bare = record {
   test = sameb D;
@@ -26,7 +26,7 @@ pub both : (p q : Bool) → (p && q) ≡ true → (p ≡ true) × (q ≡ true)
 both true q e = (refl, e)
 both false q e = absurd (false≢true e)
 
--- of a variant's last field
+-- the test of a variant's last field
 abbrev pub last : {A : Type 0} → Test A → Test (A × Unit {0})
 last {A} t = record {
   test = λ x y. t.test x.0 y.0;
@@ -36,7 +36,7 @@ last {A} t = record {
   );
 }
 
--- of a field and of those after it
+-- the test of a field and of those after it
 abbrev pub then : {A B : Type 0} → Test A → Test B → Test (A × B)
 then {A} {B} t u = record {
   test = λ x y. t.test x.0 y.0 && u.test x.1 y.1;
@@ -50,7 +50,7 @@ then {A} {B} t u = record {
   );
 }
 
--- of the fields of each variant
+-- the tests of the fields of each variant
 abbrev pub Tests : List (List Field) → Type 0
 Tests [] = Unit {0}
 Tests (fields ∷ variants) = Test (Values fields) × Tests variants
@@ -59,7 +59,7 @@ abbrev each : (variants : List (List Field)) → Tests variants → Each Bool va
 each [] tests = tt
 each (fields ∷ variants) tests = (tests.0.test, each variants tests.1)
 
--- what a derive makes of them
+-- the test that a derive makes of them
 abbrev pub derived :
     (variants : List (List Field)) → Tests variants → Choice variants → Choice variants → Bool
 derived variants tests = by false false variants (each variants tests)

@@ -1,4 +1,5 @@
--- DerivedEq: what a derived `==` of an enum says, from what those of its fields say
+-- DerivedEq: the derived `==` of an enum says whether two values are equal, if the tests of its
+-- fields do
 pub mod DerivedEq
 -- SameCalls: the derived `==` of two calls says whether they are equal
 pub mod SameCalls

@@ -52,7 +52,7 @@ timed = then name (last deadline)
 abbrev clocked : Test (List ℕ × (Clock × (Timespec × Unit {0})))
 clocked = then name (then clock (last deadline))
 
--- of the arguments of each call word, in the order of the variants
+-- the tests of the arguments of each call word, in the order of the variants
 abbrev tests : Tests calls.the_parts
 tests = (
   then name (then kind (last flag)),
@@ -134,7 +134,7 @@ tests = (
   ),
 )
 
--- the answer of the derived `==`
+-- the result of the derived `==`
 abbrev pub same : Call → Call → Bool
 same a b = derived calls.the_parts tests (calls.as_values a) (calls.as_values b)
 

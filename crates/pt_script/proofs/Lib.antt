@@ -1,12 +1,12 @@
--- Stops: what the writer took of a text, and what came of the lines whose answers were written
+-- Stops: what the writer took of a text, and what became of the lines whose answers were written
 mod Stops
--- Wholes: A whole script, as its pieces come
+-- Wholes: a whole script, read piece by piece
 mod Wholes
 -- Noted: the line that made a call is noted at its place, and is the line of the call's client
 mod Noted
--- Settled: A history goes on by forced entries until nothing is forced
+-- Settled: a history goes on with forced entries until nothing is forced
 mod Settled
--- Unrefused: an event that is not refused where a seal makes room is not refused after it
+-- Unrefused: an event that is not refused when a seal may make room is not refused after the seal
 mod Unrefused
--- OneTexts: there is one text for all lines, and each of its beginnings begins it
+-- OneTexts: there is one text for all lines, and what begins the text of the first lines begins it
 mod OneTexts

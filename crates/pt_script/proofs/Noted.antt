@@ -42,12 +42,12 @@ use Rattle.pt_engine.proofs.Followers.{cons_none, none_forced}
 use Rattle.pt_engine.proofs.Opened.{goes_on, legal_follow, legal_next, legal_sealed, longer}
 use Rattle.pt_engine.proofs.Opened.{opened_by, place_opened, same_start}
 
--- the line of the call at a place is noted, and is this client's
+-- the line of the call at a place is noted, and belongs to this client
 abbrev pub IsNoted : List (ℕ × LineId) → List (List ℕ × ℕ) → ℕ → ℕ → Type 0
 IsNoted calls clients j c =
     (line : LineId) × ((line_at calls j ≡ Some line) × (number_of clients line.who ≡ Some c))
 
--- a client is found, once more have joined
+-- a client is still found after more have joined
 number_on : (v : Event) (who other : Who) (place c : ℕ) (clients : List (List ℕ × ℕ))
     → number_of clients other ≡ Some c → number_of (clients_with v who place clients) other ≡ Some c
 number_on (event.Join p) (Named name) (Named found) place c clients is =
@@ -77,7 +77,7 @@ callers_kept h (Call c call r ∷ es) j none = absurd cc
 callers_kept h (e ∷ es) j none =
     callers_kept (h ▷ e) es j (cons_none (event_of e) (events_of es) none)
 
--- the client of a call is the one of its line
+-- the client of a call is the client of its line
 abbrev pub IsAsked : Event → Who → List (List ℕ × ℕ) → Type 0
 IsAsked (event.Call c call) who clients = number_of clients who ≡ Some c
 IsAsked _ who clients = Unit {0}
@@ -112,7 +112,7 @@ asked_of s who (Err why) v e = absurd cc
 asked_of s who (Ok body) (event.Call c call) e = event_asked s who body c call e
 asked_of s who (Ok body) _ e = tt
 
--- each call of a legal history is noted, and none that comes
+-- each call of a legal history is noted, and no call is noted at a place that is still to come
 pub record AreNoted (core : Kept) (clients : List (List ℕ × ℕ)) (calls : List (ℕ × LineId)) :
     Type 0 where
   pub legal : IsLegal core
@@ -122,7 +122,7 @@ pub record AreNoted (core : Kept) (clients : List (List ℕ × ℕ)) (calls : Li
 abbrev pub IsWellNoted : Script → Type 0
 IsWellNoted s = AreNoted (core_of s) s.clients s.calls
 
--- those of a seal are
+-- the same for the core that is opened for an event
 opened_noted : (core : Kept) (v : Event) (clients : List (List ℕ × ℕ))
     (calls : List (ℕ × LineId)) → AreNoted core clients calls
     → AreNoted (opened core v) clients calls
@@ -134,7 +134,7 @@ opened_noted core v clients calls n =
           n.lines j c (caller_sealed (past core) (legal_follow core n.legal) j c called);
     })
 
--- each call is, after the entry of an event
+-- each call is noted after the entry of an event
 lines_after : (core : Kept) (clients : List (List ℕ × ℕ)) (calls : List (ℕ × LineId))
     (v : Event) (line : LineId) → AreNoted core clients calls → IsAsked v line.who clients
     → (j c : ℕ) → caller (past core ▷ entry_for (past core) v) j ≡ Some c
@@ -166,7 +166,7 @@ lines_after core clients calls (event.Call d call) line n asked j c e =
 lines_after core clients calls v line n asked j c e =
     noted_on v line (place (past core)) j c calls clients (n.lines j c e)
 
--- and after those that must follow it
+-- and after the entries that must follow it
 next_noted : (core next : Kept) (v : Event) (line : LineId) (clients : List (List ℕ × ℕ))
     (calls : List (ℕ × LineId)) → AreNoted core clients calls → IsAsked v line.who clients
     → Writes core v next
@@ -226,7 +226,7 @@ line_noted s line next text n (Ok v) e says = go says
         event_noted (counted s line.who) v (line_id s line.who) next text n
         (asked_of s line.who line.body v e) a
 
--- so it is after all lines
+-- this holds after all lines
 pub says_noted : (s : Script) (xs : List ScriptLine) (last : Script) (text : List ℕ)
     → IsWellNoted s → SaysAll s xs last text → IsWellNoted last
 says_noted s [] last text n says = subst IsWellNoted (sym says.0) n

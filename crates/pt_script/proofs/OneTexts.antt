@@ -1,4 +1,4 @@
--- There is one text for all lines, and each of its beginnings begins it.
+-- There is one text for all lines, and what begins the text of the first lines begins it.
 use Rattle.std.proofs.Common.{◌≡◌, ℕ, zero, suc, Bool, true, false, not, ◌&&◌, List, [], ◌∷◌, ◌++◌}
 use Rattle.std.proofs.Common.{length, take, drop, Option, Some, None, MatchOption, Result, Ok, Err}
 use Rattle.std.proofs.Common.{refl, sym, ap, ◌∙◌, subst, append_assoc, arith}
@@ -38,7 +38,7 @@ use Rattle.pt_engine.proofs.Runs.{says_join}
 use Rattle.pt_script.proofs.Settled.{settles}
 use Rattle.pt_script.proofs.Unrefused.{not_refused, unrefused_opened}
 
--- one text and one script after it
+-- the text is the same, and so is the script after it
 abbrev Same : Script → List ℕ → Script → List ℕ → Type 0
 Same s text t other = (s ≡ t) × (text ≡ other)
 
@@ -149,7 +149,7 @@ same_all wanted s (line ∷ more) a xs b ys p q =
       p.5 ∙ ap (λ t. t ++ p.2) first.1 ∙ ap (λ t. q.1 ++ t) rest.1 ∙ sym q.5,
     )
 
--- the entries are the history of their own events
+-- the entries are the legal list for their own events
 abbrev IsLegalAfter : Script → Type 0
 IsLegalAfter s = IsLegal (core_of s)
 
@@ -231,7 +231,7 @@ can_accept s v line legal none = (
       same_limit = sym (limit_opened (core_of s) v);
     }
 
--- an event has a text
+-- there is a text for an event
 can_answer : (wanted : Bool) (s : Script) (v : Event) (line : LineId) → IsLegalAfter s
     → (next : Script) × (text : List ℕ) × SaysMet wanted s v line next text × IsLegalAfter next
 can_answer wanted s v line legal = go (refusal_of_event s v) refl
@@ -270,13 +270,13 @@ can_answer wanted s v line legal = go (refusal_of_event s v) refl
             let some = can_accept s v line legal e in
             (some.0, some.1, accepted other some.2, some.3)
 
--- so has a line
+-- so there is for a line
 can_say : (wanted : Bool) (s : Script) (line : LineId) (r : Result Event Refusal) → IsLegalAfter s
     → (next : Script) × (text : List ℕ) × SaysToMet wanted s line r next text × IsLegalAfter next
 can_say wanted s line (Err why) legal = (s, refusal_text line why, (refl, refl), legal)
 can_say wanted s line (Ok v) legal = can_answer wanted s v line legal
 
--- and so have all lines
+-- and for all lines
 can_say_all : (wanted : ℕ → Bool) (s : Script) (lines : List ScriptLine) → IsLegalAfter s
     → (last : Script) × (text : List ℕ) × SaysAllMet wanted s lines last text
 can_say_all wanted s [] legal = (s, [], (refl, refl))
@@ -299,12 +299,12 @@ one_text wanted lines =
       one = λ other others says. same_all wanted begun lines other others some.0 some.1 says some.2;
     }
 
--- the first flag, and then these
+-- this flag followed by the others
 abbrev flags : Bool → (ℕ → Bool) → ℕ → Bool
 flags b wanted zero = b
 flags b wanted (suc k) = wanted k
 
--- at which lines memory is lacking
+-- whether memory is lacking at an event, read off what was written for it
 met_of : (s : Script) (v : Event) (line : LineId) (next : Script) (text : List ℕ)
     → SaysOf s v line next text → (b : Bool) × SaysMet b s v line next text
 met_of s v line next text (refuses r) = (false, refused r)
@@ -325,7 +325,7 @@ met_all s (line ∷ more) last text says =
     let rest = met_all says.0 more last says.2 says.4 in
     (flags first.0 rest.0, (says.0, says.1, says.2, first.1, rest.1, says.5))
 
--- without a word of where
+-- the same without whether memory is lacking
 said_of : (b : Bool) (s : Script) (v : Event) (line : LineId) (next : Script) (text : List ℕ)
     → SaysMet b s v line next text → SaysOf s v line next text
 said_of b s v line next text (refused r) = refuses r
@@ -356,7 +356,7 @@ each_text lines last text = (
   λ met. said_all met.0 begun lines last text met.1,
 )
 
--- after lines the entries are still the history of their own events
+-- after lines the entries are still the legal list for their own events
 legal_of : (s : Script) (v : Event) (line : LineId) (next : Script) (text : List ℕ) → IsLegalAfter s
     → SaysOf s v line next text → IsLegalAfter next
 legal_of s v line next text legal (refuses r) = subst IsLegalAfter (sym r.same) legal

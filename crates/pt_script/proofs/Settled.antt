@@ -1,4 +1,4 @@
--- A history goes on by forced entries until nothing is forced.
+-- A history goes on with forced entries until nothing is forced.
 use Rattle.std.proofs.Common.{◌≡◌, ℕ, zero, suc, ◌<◌, ◌≤◌, true, List, [], ◌∷◌, Option, Some, None}
 use Rattle.std.proofs.Common.{MatchOption, refl, sym, ◌∙◌, subst, arith}
 use Rattle.pt_model.specs.declared.entry.Entry.{Entry}
@@ -11,7 +11,7 @@ use Rattle.pt_model.specs.Steps.{Follows}
 use Rattle.pt_model.proofs.Room.{room-step}
 use Rattle.pt_model.proofs.Steps.{step-forced}
 
--- a forced entry is none of an event
+-- a forced entry is no event's own
 forced_is : (h : History) (e : Entry) → forced h ≡ Some e → is_forced e ≡ true
 forced_is h e f = go e (step-forced h e f) f
   where
@@ -25,11 +25,11 @@ forced_is h e f = go e (step-forced h e f) f
     go _ (yields m s t) f = refl
     go _ (expires w s i t) f = refl
 
--- a forced entry lowers what must still be written
+-- a forced entry lowers the need
 fewer : (h : History) (f : Entry) → Follows h → forced h ≡ Some f → need (h ▷ f) < need h
 fewer h f follows e = (room-step h f follows (step-forced h f e) (forced_is h f e)).1
 
--- a history goes on by a forced entry, or is settled
+-- a history goes on with a forced entry, or is settled
 goes_on : (h : History) (o : Option Entry) → forced h ≡ o
     → ((f : Entry) → forced h ≡ Some f → (fs : List Entry) × LegalFrom (h ▷ f) fs [])
     → (fs : List Entry) × LegalFrom h fs []
@@ -42,7 +42,7 @@ goes_on h (Some f) e rest =
           (λ x. (f ≡ x) × LegalFrom (h ▷ f) more.0 [])) (sym e) (refl, more.1),
     )
 
--- until nothing is forced
+-- a history goes on until nothing is forced
 pub settles : (n : ℕ) (h : History) → Follows h → need h ≤ n → (fs : List Entry) × LegalFrom h fs []
 settles zero h follows few =
     goes_on h (forced h) refl (λ f e. absurd (omega (arith, few, fewer h f follows e)))

@@ -1,4 +1,4 @@
--- What the writer took of a text, and what came of the lines whose answers were written.
+-- What the writer took of a text, and what became of the lines whose answers were written.
 use Rattle.std.proofs.Common.{◌≡◌, ℕ, ◌<◌, ◌≤◌, List, [], ◌++◌, length, take, drop, Result, Ok, Err}
 use Rattle.std.proofs.Common.{sym, ap, subst, ◌∙◌, append-nil}
 use Rattle.std.specs.Result.{IsErrAnd, IfOk, IfErr}
@@ -12,7 +12,7 @@ use Rattle.pt_engine.specs.Engines.{Answers, IsAnswered}
 use Rattle.pt_script.specs.Texts.{BreaksOff, IsCutShort, Writing}
 use Rattle.pt_script.specs.Stops.{IsCutOff}
 
--- what grew to a longer text, and what is left of it
+-- the bytes by which a text grew, and those that remain
 pub cut_short : (old bytes text rest : List ℕ) → text ++ rest ≡ old ++ bytes
     → length old ≤ length text → 0 < length rest → IsCutShort old bytes text
 cut_short old bytes text rest joins grows some = record {
@@ -31,7 +31,7 @@ cut_short old bytes text rest joins grows some = record {
       ∙ take-append_seam old bytes);
 }
 
--- a buffer that began empty, after what was taken before
+-- a buffer that was empty at first, after what was taken before
 pub onto_taken : (s : Script) (cuts : List Cut) (begun : List ℕ) (last : Script)
     (out shown old : List ℕ) → IsAnswered s cuts begun last out → begun ≡ [] → shown ≡ out
     → IsAnswered s cuts old last (old ++ shown)
@@ -41,13 +41,13 @@ onto_taken s cuts begun last out shown old a empty shows = record {
   grows = ap (λ xs. old ++ xs) (shows ∙ a.grows ∙ ap (λ xs. xs ++ a.text) empty);
 }
 
--- a buffer that began empty is the text that was answered
+-- a buffer that was empty at first holds the text of the answers
 shown_text : (s : Script) (cuts : List Cut) (begun : List ℕ) (last : Script) (out shown : List ℕ)
     (a : IsAnswered s cuts begun last out) → begun ≡ [] → shown ≡ out → shown ≡ a.text
 shown_text s cuts begun last out shown a empty shows =
     shows ∙ a.grows ∙ ap (λ xs. xs ++ a.text) empty
 
--- answers that the writer broke at
+-- the writer failed within these answers
 pub cut_off : (held fed : Held) (s : Script) (begun : List ℕ) (next : Held) (last : Script)
     (out shown old : List ℕ) (w : Writing) → Answers fed s begun next last out → fed ≡ held
     → begun ≡ [] → shown ≡ out → BreaksOff old shown w → IsCutOff held s old w
@@ -63,13 +63,13 @@ cut_off held fed s begun next last out shown old w a feeds empty shows breaks = 
       (shown_text s a.cuts begun last out shown a.answered empty shows) breaks;
 }
 
--- a fault that is answered is this one
+-- a fault that is returned is this one
 pub told_fault : {T : Type 0} (r : Result T ScriptFault) (fault : ScriptFault)
     (P : ScriptFault → Type 0) → IsErrAnd r (λ f. f ≡ fault) → P fault → IfErr r P
 told_fault (Ok done) fault P told holds = absurd told
 told_fault (Err f) fault P told holds = subst P (sym told) holds
 
--- the last answer, that the writer broke at
+-- the writer failed within the last answer
 pub last_cut_off : (held : Held) (s : Script) (begun : List ℕ) (last : Script)
     (out shown old : List ℕ) (w : Writing) → IsAnswered s (to_come held []) begun last out
     → begun ≡ [] → shown ≡ out → BreaksOff old shown w → IsCutOff held s old w
@@ -85,7 +85,7 @@ last_cut_off held s begun last out shown old w a empty shows breaks = record {
       (shown_text s (to_come held []) begun last out shown a empty shows) breaks;
 }
 
--- what holds of each good answer
+-- what holds of each success
 pub on_ok : {T E : Type 0} (P Q : T → Type 0) (r : Result T E)
     → ((x : T) → P x → Q x) → IfOk r P → IfOk r Q
 on_ok P Q (Ok x) then holds = then x holds

@@ -1,4 +1,4 @@
--- An event that is not refused where a seal makes room is not refused once it is made.
+-- An event that is not refused when a seal may make room is not refused after the seal.
 use Rattle.std.proofs.Common.{◌≡◌, ◌+◌, true, cond, Option, Some, None, refl, sym, ap, ◌∙◌, subst}
 use Rattle.std.proofs.Common.{arith}
 use Rattle.std.specs.Option.{option_or}
@@ -22,7 +22,7 @@ use Rattle.pt_legal.proofs.SealRoom.{needs-parts, none-over, refused-without}
 use Rattle.pt_engine.specs.Engines.{IsLegal}
 use Rattle.pt_engine.proofs.Opened.{legal_follow, legal_settle, opened_by, sealed_alike}
 
--- what is not refused for room either is not refused
+-- if neither of two refusals applies, the first does not
 pub not_refused : (a b : Option Refusal) → option_or a b ≡ None → a ≡ None
 not_refused None b e = refl
 not_refused (Some why) b e = absurd cc
@@ -54,7 +54,7 @@ module _ (core : Kept) (l : IsLegal core) (v : Event)
   step_sealed : Step (Begin (seal (past core))) (entry_for (past core) v)
   step_sealed = subst (Step g) (sym (alike.enters v)) (step-event g v quiet refused)
 
-  -- as much is needed after its entry
+  -- the need after the event's entry is the same with a seal
   need_sealed : need (g ▷ entry_for g v) ≡ need (h ▷ entry_for h v)
   need_sealed =
       ap (λ (e : Entry). need (g ▷ e)) (sym (alike.enters v))

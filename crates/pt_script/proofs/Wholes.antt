@@ -1,4 +1,4 @@
--- A whole script, as its pieces come.
+-- A whole script, read piece by piece.
 use Rattle.std.proofs.Common.{◌≡◌, ℕ, suc, ◌+◌, ◌<◌, ◌≤◌, ◌==◌, Bool, true, false, ◌||◌, ◌&&◌}
 use Rattle.std.proofs.Common.{nat_lt, cond, List, [], ◌∷◌, ◌++◌, length, map, take, refl, sym, ap}
 use Rattle.std.proofs.Common.{subst, ◌∙◌, append_assoc, append-nil, length-append, arith}
@@ -24,7 +24,7 @@ use Rattle.pt_script.specs.Stops.{IsCutOff, IsEnd, IsStopped}
 use Rattle.pt_script.specs.Texts.{Writing}
 use Rattle.pt_engine.proofs.Runs.{says_join, says_all_seen}
 
--- each line has a byte of its own, but a begun one
+-- each line has a byte of its own, except one that was begun before
 few_after : (text bytes : List ℕ) → length (lines_after text bytes) ≤ length bytes + length text
 few_after [] [] = omega arith
 few_after (x ∷ text) [] = omega arith
@@ -54,7 +54,7 @@ few_after (x ∷ text) (b ∷ bytes) =
 pub few_lines : (bytes : List ℕ) → length (lines bytes) ≤ length bytes
 few_lines bytes = let few = few_after [] bytes in omega (arith, few)
 
--- bytes that are held are as good as bytes that come
+-- bytes that are held count like bytes that come later
 pub fed : (held : Held) (piece more : List ℕ)
     → to_come (record held { rest = held.rest ++ piece }) more ≡ to_come held (piece ++ more)
 fed held piece more =
@@ -65,7 +65,7 @@ pub fed_end : (held : Held) (piece : List ℕ)
     → to_come (record held { rest = held.rest ++ piece }) [] ≡ to_come held piece
 fed_end held piece = fed held piece [] ∙ ap (to_come held) (append-nil piece)
 
--- as many lines were seen as were given, and the rest is still to come
+-- as many lines were seen as were given, and the rest are still to come
 pub behind_few : (bytes : List ℕ) (held : Held) (s : Script) (text : List ℕ) (more : List ℕ)
     → IsBehind bytes held s text
     → length s.seen + length (to_come held more) ≤ length (bytes ++ more)
@@ -76,7 +76,7 @@ behind_few bytes held s text more b =
     let few = few_lines (bytes ++ more) in
     omega (arith, seen, same, all, few)
 
--- a piece more was answered
+-- one more piece was answered
 pub behind_fed : (bytes piece : List ℕ) (held : Held) (s : Script) (text : List ℕ) (next : Held)
     (last : Script) (new : List ℕ) → IsBehind bytes held s text
     → Answers (record held { rest = held.rest ++ piece }) s text next last new
@@ -96,7 +96,7 @@ behind_fed bytes piece held s text next last new b a = record {
       b.says a.answered.says));
 }
 
--- the first lines of these bytes, and a text for them
+-- the first lines of these bytes, with a text for them
 begins_at : (bytes : List ℕ) (xs later : List Cut) (last : Script) (whole text : List ℕ)
     → lines bytes ≡ xs ++ later → SaysAll begun (map script_of xs) last whole → IsPrefix text whole
     → (b : BeginsScriptText bytes text) × (b.whole ≡ whole)
@@ -120,14 +120,14 @@ begins_at bytes xs later last whole text all says begins = (
     split : lines_of bytes ≡ map script_of xs ++ map script_of later
     split = ap (map script_of) all ∙ map-append script_of xs later
 
--- what was written is that for the lines so far
+-- what was written is the text for the lines so far
 pub behind_begins : (bytes : List ℕ) (held : Held) (s : Script) (text more : List ℕ)
     → IsBehind bytes held s text → BeginsScriptText (bytes ++ more) text
 behind_begins bytes held s text more b =
     (begins_at (bytes ++ more) b.cuts (to_come held more) s text text (b.given more) b.says
     ([], append-nil text)).0
 
--- the writer broke at the answers to the next lines
+-- the writer failed within the answers to the next lines
 pub behind_cut_off : (bytes : List ℕ) (held next : Held) (s : Script) (text more : List ℕ)
     (w : Writing) → IsBehind bytes held s text → to_come next [] ≡ to_come held more
     → IsCutOff next s text w
@@ -153,7 +153,7 @@ behind_cut_off bytes held next s text more w b same off =
     let whole = ap length begins.1 in
     (begins.0, omega (arith, flushed, parts, some, whole))
 
--- all was answered
+-- all lines were answered
 pub behind_end : (bytes : List ℕ) (held : Held) (s : Script) (text new : List ℕ) (count entries : ℕ)
     → IsBehind bytes held s text → IsEnd held s text new count entries
     → IsScriptText bytes new count entries
@@ -177,13 +177,13 @@ behind_end bytes held s text new count entries b end = record {
         (says_join begun (map script_of b.cuts) s text (map script_of (to_come held []))
         end.last end.answered.text b.says end.answered.says))
 
--- what was written, once more bytes have come
+-- what was written, after more bytes have come
 pub begins_given : (bytes given more : List ℕ) (held : Held) (s : Script) (text : List ℕ)
     → IsBehind bytes held s text → given ≡ bytes ++ more → BeginsScriptText given text
 begins_given bytes given more held s text b gives =
     subst (λ bs. BeginsScriptText bs text) (sym gives) (behind_begins bytes held s text more b)
 
--- what was written, where the answers were stopped
+-- what was written, if answering was stopped
 pub stopped_begins : (bytes given more : List ℕ) (held next : Held) (s : Script) (text : List ℕ)
     (w : Writing) (fault : ScriptFault) → IsBehind bytes held s text → given ≡ bytes ++ more
     → to_come next [] ≡ to_come held more → IsStopped fault next s text w
@@ -196,7 +196,7 @@ stopped_begins bytes given more held next s text w Memory b gives same stop =
     subst (λ t. BeginsScriptText given t) (sym stop.taken)
     (begins_given bytes given more held s text b gives)
 
--- all lines that are whole in these bytes were answered
+-- all whole lines in these bytes were answered
 pub whole_answered : (bytes : List ℕ) (held : Held) (s : Script) (text given new : List ℕ)
     → IsBehind bytes held s text → IsBegun held → given ≡ bytes → new ≡ text
     → AnswersWhole given new
@@ -205,7 +205,7 @@ whole_answered bytes held s text given new b begins same wrote =
     (subst (λ t. AnswersWhole bytes t) (sym wrote)
     (record { rest = held; last = s; behind = b; begun = begins }))
 
--- why they were
+-- why answering was stopped
 pub stopped_why : (bytes more : List ℕ) (held next : Held) (s : Script) (text : List ℕ) (c : Course)
     (fault : ScriptFault) → IsBehind bytes held s text → IsBegun held
     → c.reader.given ≡ bytes ++ more → c.reader.earlier ≡ bytes
@@ -235,12 +235,12 @@ stopped_why bytes more held next s text c Memory b begins gives before same read
   flushed = stop.flushed ∙ sym stop.taken;
 }
 
--- before the first read the reader gave nothing, and no writer flushed what it did not take
+-- before the first read the reader gave nothing, and a writer flushed nothing that it did not take
 pub nothing_before : (front bytes : List ℕ) → IsPrefix front bytes → bytes ≡ [] → front ≡ []
 nothing_before [] bytes begins none = refl
 nothing_before (b ∷ front) bytes begins none = absurd (let no = begins.1 ∙ none in cc)
 
--- a read that gave a byte told no end
+-- a read that gave a byte reported no end
 pub not_ended : (n : ℕ) (buf : List ℕ) (before after : Bool) → (n ≡ 0 → ⊥)
     → after ≡ (before || moves_none n buf) → after ≡ before
 not_ended n buf before after some says = says ∙ by (n == 0) (Decides-eqb n 0).0 before
@@ -255,7 +255,7 @@ pub never_ended : (before after : Bool) → before ≡ false → after ≡ (befo
     → after ≡ false
 never_ended before after none says = says ∙ ap (λ b. b || false) none
 
--- before the first byte no line came, and none is begun
+-- before the first byte no line has come, and none is begun
 pub behind_begun : (given : List ℕ) (held : Held) (s : Script) (text : List ℕ) → given ≡ []
     → held ≡ record { rest = []; dropping = false } → s ≡ begun → text ≡ []
     → IsBehind given held s text

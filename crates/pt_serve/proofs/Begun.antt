@@ -1,4 +1,4 @@
--- Texts that a writer took a front of.
+-- Texts that a writer took in part.
 use Rattle.std.specs.Prelude.{Result, Ok, Err, OnOk, OnErr, IfOk, IfErr}
 use Rattle.std.specs.Result.{IsErrAnd}
 use Rattle.std.proofs.Common.{◌≡◌, ℕ, ◌-◌, ◌≤◌, List, [], ◌++◌, length, take, drop}
@@ -9,7 +9,7 @@ use Rattle.std.proofs.Math.Seq.{take-append_seam, drop-append_seam}
 use Rattle.pt_session.specs.Outputs.{IsCutShort}
 use Rattle.pt_serve.specs.Served.{IsServiceBegun, closed_line, ready_line}
 
--- what grew to a longer text, and what is left of it
+-- the bytes by which a text grew, and those that remain
 pub begun : (old bytes text rest : List ℕ) → text ++ rest ≡ old ++ bytes
     → length old ≤ length text → IsCutShort old bytes text
 begun old bytes text rest joins grows = record {
@@ -27,7 +27,7 @@ begun old bytes text rest joins grows = record {
       ∙ take-append_seam old bytes);
 }
 
--- what was taken and what is left, once some more of it is taken
+-- what was taken and what remains, after some more is taken
 pub joined : (old bytes text new rest : List ℕ) (n : ℕ) → new ≡ text ++ take n rest
     → text ++ rest ≡ old ++ bytes
     → new ++ take (length rest - n) (drop n rest) ≡ old ++ bytes
@@ -44,7 +44,7 @@ pub grown : (old text new more : List ℕ) → new ≡ text ++ more → length o
     → length old ≤ length new
 grown old text new more adds grows = omega (arith, ap length adds, length-append text more)
 
--- a text that is the same
+-- the same with an equal text
 pub begun_same : (old bytes text new : List ℕ) → IsCutShort old bytes text → new ≡ text
     → IsCutShort old bytes new
 begun_same old bytes text new b same = subst (IsCutShort old bytes) (sym same) b
@@ -86,7 +86,7 @@ closed_begun old text n b = record {
   };
 }
 
--- what holds, holds if there is an error
+-- a statement that holds anyway holds if there is an error
 pub on_err : {T E : Type 0} (r : Result T E) (P : Type 0) → P → OnErr r P
 on_err (Ok x) P p = tt
 on_err (Err e) P p = p
@@ -102,7 +102,7 @@ pub told_err : {T E : Type 0} (r : Result T E) (e : E) (P : E → Type 0)
 told_err (Ok x) e P told holds = absurd told
 told_err (Err f) e P told holds = subst P (sym told) holds
 
--- where there is an error, nothing is said of what is good
+-- if there is an error, nothing is claimed about a success
 pub no_ok : {T E : Type 0} (r : Result T E) (e : E) (P : Type 0) → IsErrAnd r (λ f. f ≡ e)
     → OnOk r P
 no_ok (Ok x) e P told = absurd told

@@ -1,4 +1,4 @@
--- Faults that are none of the writer.
+-- Faults that are not the writer's.
 use Rattle.std.proofs.Common.{◌≡◌}
 use Rattle.pt_serve.specs.declared.fault.ServeFault.TheVariants.{Bind, Write}
 

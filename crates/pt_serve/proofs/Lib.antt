@@ -1,6 +1,6 @@
--- Begun: texts that a writer took a front of
+-- Begun: texts that a writer took in part
 mod Begun
--- Faults: faults that are none of the writer
+-- Faults: faults that are not the writer's
 mod Faults
 -- Looks: looks at a clock
 mod Looks

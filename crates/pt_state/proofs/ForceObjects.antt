@@ -1,4 +1,4 @@
--- The rows of objects after a forced entry, and what the writes of its object ask.
+-- The rows of objects after a forced entry, and what the writes of its object require.
 use Rattle.std.proofs.Common.{◌≡◌, ℕ, ◌+◌, true, false, List, Option, Some, None, IsSome}
 use Rattle.std.proofs.Common.{option_map, refl, sym, ap, ◌∙◌, subst}
 use Rattle.std.proofs.lemmas.Bool.{and_parts, false≢true}
@@ -64,7 +64,7 @@ takes_all h _ (expires w t i o) = tt
 pub yielded-orphan : (h : History) (m : ℕ) → Step h (Yield m) → is_orphan h m ≡ true
 yielded-orphan h m s = takes_all h (Yield m) s
 
--- what is a robust mutex is a mutex
+-- a robust mutex is a mutex
 robust-class : (k : Option ObjectKind) → is_robust k ≡ true → is_class k MutexClass ≡ true
 robust-class None e = absurd (false≢true e)
 robust-class (Some (kind.Mutex k robust)) e = refl
@@ -72,7 +72,7 @@ robust-class (Some kind.Rwlock) e = absurd (false≢true e)
 robust-class (Some kind.Cond) e = absurd (false≢true e)
 robust-class (Some (kind.Barrier n)) e = absurd (false≢true e)
 
--- the mutex that a call is for is there
+-- the mutex that a call is for exists
 housed-mutex : (h : History) (m q : ℕ) (role : Role) (move : Option Move) → HousedBy h role move q
     → mutex_of role q ≡ Some m → exists_as h MutexClass m ≡ true
 housed-mutex h m q ForMutex move s e =
@@ -194,7 +194,7 @@ module _ {A : Type 0} (h : History) (f : Follows h) (old : List (ObjectRow (Obje
         ap (λ v. can_acquire v w.client) (t.look.mutexes m x k).0
         ∙ grant-can h f w m i (granted-may h w f i s) e told
 
-    -- and has it once more
+    -- and holds it once more
     pub object_rows-behind-mutex : (new : List (ObjectRow (Object A))) (m : ℕ)
         → mutex_of w.role w.object ≡ Some m → is_acquired (grant_outcome h w) ≡ true
         → ((x : MutexState) → object_value old m ≡ Some (Mutex x)
@@ -209,7 +209,7 @@ module _ {A : Type 0} (h : History) (f : Follows h) (old : List (ObjectRow (Obje
         (object_value new) m x.0 e x.1 told
         here.look) (λ n. refl) refl
 
-    -- a mutex that is lost stays
+    -- a mutex that is lost stays as it is
     pub object_rows-behind-lost : (m : ℕ) → mutex_of w.role w.object ≡ Some m
         → is_acquired (grant_outcome h w) ≡ false → AreObjects (after_grant h w) old
     object_rows-behind-lost m e told =
@@ -222,7 +222,7 @@ module _ {A : Type 0} (h : History) (f : Follows h) (old : List (ObjectRow (Obje
     acquires-read role r k =
         read-acquire h f w r i (granted-may h w f i s) role (t.look.rwlocks w.object r k)
 
-    -- and has it once more
+    -- and holds it once more
     pub object_rows-behind-read : (new : List (ObjectRow (Object A))) → w.role ≡ ForRead
         → ((r : RwlockState) → object_value old w.object ≡ Some (Rwlock r)
         → WritesObject old new w.object (Rwlock (with_reads r w.client (reads_of r w.client + 1))))
@@ -246,7 +246,7 @@ module _ {A : Type 0} (h : History) (f : Follows h) (old : List (ObjectRow (Obje
     acquires-write role r k =
         write-acquire h f w r (granted-may h w f i s) role (t.look.rwlocks w.object r k)
 
-    -- and has it
+    -- and holds it
     pub object_rows-behind-write : (new : List (ObjectRow (Object A))) → w.role ≡ ForWrite
         → ((r : RwlockState) → object_value old w.object ≡ Some (Rwlock r)
         → WritesObject old new w.object (Rwlock (record r { writer = Some w.client })))

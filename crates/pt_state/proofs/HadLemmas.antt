@@ -63,7 +63,7 @@ module _ {A : Type 0} (s : State A) (c : ℕ) (call : Asked)
   pub row-there : has_client s.clients c ≡ true
   row-there = client-there s.clients c row.0 row.1
 
-  -- which stays, whatever it owns
+  -- the client has a row, whatever clients own
   pub still-there : (clients : List (ClientRow Caller)) → unowned clients ≡ unowned s.clients
       → has_client clients c ≡ true
   still-there clients owned =
@@ -86,7 +86,7 @@ module _ {A : Type 0} (s : State A) (c : ℕ) (call : Asked)
   wrote : WritesCaller s.clients rows c waits
   wrote = writes-caller s.clients c waits row-there
 
-  -- have it in its client's row
+  -- the rows have the call in its client's row
   here : (c == c) ≡ true
   here = eq-eqb c c refl
 
@@ -115,7 +115,7 @@ module _ {A : Type 0} (s : State A) (c : ℕ) (call : Asked)
         (chained-caller s.clients rows objects s.orphans linked c row.0 waits row.1 wrote refl)
         near.clocks (near.answers ∙ sym (append-nil (log (past s)))) refl (omega arith)
 
-    -- so its Grant may follow
+    -- its Grant may follow
     abbrev pub answer : Outcome
     answer = grant_outcome (past mid) o.call
 
@@ -128,7 +128,7 @@ module _ {A : Type 0} (s : State A) (c : ℕ) (call : Asked)
     one : told (past mid) (Grant o.call.place answer) ≡ told_of o answer ∷ []
     one = told-grant (past mid) o.call answer next.read.follows open_now
 
-    -- there is room for both
+    -- there is room for the answer and for both entries
     pub spare : length s.answers.items < s.answers.capacity
     spare = omega (arith, next.spare, ap length one)
 
@@ -138,7 +138,7 @@ module _ {A : Type 0} (s : State A) (c : ℕ) (call : Asked)
     -- once it is granted, with this outcome and these objects
     module _ (x : Outcome) (answers_it : x ≡ answer) (new : List (ObjectRow (Object A)))
         (then : AreObjects (past mid ▷ Grant o.call.place answer) new) where
-      -- the clients, where none is called before
+      -- the rows of clients, if the Grant closes the call in the row in which it waits
       abbrev closes : List (ClientRow Caller)
       closes = with_client rows c (closed (Some answer) waits)
 
@@ -157,7 +157,7 @@ module _ {A : Type 0} (s : State A) (c : ℕ) (call : Asked)
           (subst (λ (u : Caller). WritesCaller rows closes c (closed (Some answer) u)) (sym same)
           closed_row))
 
-      -- and where its row is written once
+      -- and if its client's row is written only once
       direct : (ones : List (ClientRow Caller)) (v : Caller) → client_value s.clients c ≡ Some v
           → WritesCaller s.clients ones c (called_at (place (past s)) (Some answer) v)
           → AreCallers (past mid ▷ Grant o.call.place answer) ones
@@ -191,7 +191,7 @@ module _ {A : Type 0} (s : State A) (c : ℕ) (call : Asked)
               go true = ap Some alike
               go false = refl
 
-      -- all tables, with the Grant
+      -- all tables after the Grant
       module _ (clients : List (ClientRow Caller)) (owned : unowned clients ≡ unowned s.clients)
           (chained : AreChained clients new s.orphans) (end : State A)
           (notes : NotesHad (record s { clients = clients; objects = new }) c call x end) where

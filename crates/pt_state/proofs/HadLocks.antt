@@ -45,7 +45,7 @@ use Rattle.pt_state.proofs.StandObjects.{stayed-again}
 -- a mutex
 module _ {A : Type 0} (s : State A) (c : ℕ) (call : Asked) (m : ℕ)
     (ready : IsReadyFor s (Call c call None)) (o : Open) (had : IsHad s c call ForMutex m o) where
-  -- its objects are the same while it waits
+  -- the objects stay the same while the call waits
   pub mutex-looks : AreObjects (past s ▷ Call c call None) s.objects
   mutex-looks = object_rows-waiting s c call ready o had.left (ap only_stands had.role)
 
@@ -186,7 +186,7 @@ module _ {A : Type 0} (s : State A) (c : ℕ) (call : Asked) (r : ℕ)
 -- a read lock
 module _ {A : Type 0} (s : State A) (c : ℕ) (call : Asked) (r : ℕ)
     (ready : IsReadyFor s (Call c call None)) (o : Open) (had : IsHad s c call ForRead r o) where
-  -- is at a lock
+  -- the object of a call for a read lock is a read-write lock
   pub read-lock-stored : (v : RwlockState) × (object_value s.objects r ≡ Some (Rwlock v))
   read-lock-stored =
       subst (λ n. (v : RwlockState) × (object_value s.objects n ≡ Some (Rwlock v))) had.object
@@ -195,7 +195,7 @@ module _ {A : Type 0} (s : State A) (c : ℕ) (call : Asked) (r : ℕ)
   pub read-stored : IsSome (rwlock_in (object_value s.objects r))
   read-stored = rw read-lock-stored.1 refl
 
-  -- where there is no memory for its row, nothing has changed
+  -- if there is no memory for its row, nothing has changed
   pub read-stays : (new : List (ObjectRow (Object A)))
       → ((v : RwlockState) → object_value s.objects r ≡ Some (Rwlock v)
       → WritesObject s.objects new r (Rwlock v))
@@ -206,7 +206,7 @@ module _ {A : Type 0} (s : State A) (c : ℕ) (call : Asked) (r : ℕ)
       stayed-again s new r (Rwlock read-lock-stored.0) ready.read read-lock-stored.1
       (w read-lock-stored.0 read-lock-stored.1) (k read-lock-stored.0 read-lock-stored.1)
 
-  -- with its row there
+  -- once its row exists
   module _ (rowed : List (ObjectRow (Object A)))
       (makes : (v : RwlockState) → object_value s.objects r ≡ Some (Rwlock v)
       → WritesObject s.objects rowed r (Rwlock (with_row v c)))

@@ -53,14 +53,14 @@ module _ {A : Type 0} (s : State A) where
     adds-service new a =
         subst (λ (e : Entry). Adds s e new) (sym (service-grant (past s) (called o) other)) a
 
-  -- what is added to a state with other objects is added to the state before
+  -- a state that adds an entry to this one with other objects also adds it to this one
   pub adds-over : (mid new : State A) (e : Entry) → mid ≡ record s { objects = mid.objects }
       → Adds mid e new → Adds s e new
   adds-over mid new e rest a =
       let b = subst (λ (t : State A). Adds t e new) rest a in
       record { stored = b.stored; read = b.read; held = b.held; told = b.told }
 
-  -- where the objects are as they were, all tables are
+  -- if the objects are as they were, so are all tables
   pub stays-objects : (objects : List (ObjectRow (Object A))) → AreTables s
       → objects ≡ s.objects → Stays s (record s { objects = objects })
   stays-objects objects read same =
@@ -72,7 +72,7 @@ module _ {A : Type 0} (s : State A) where
         told = refl;
       }
 
-  -- and so where the clients are
+  -- and so they are if the clients are
   pub stays-clients : (clients : List (ClientRow Caller)) → AreTables s
       → clients ≡ s.clients → Stays s (record s { clients = clients })
   stays-clients clients read same =
@@ -84,12 +84,12 @@ module _ {A : Type 0} (s : State A) where
         told = refl;
       }
 
--- what holds anyway holds of an error
+-- what holds in any case holds for an error
 pub on-err : {X E P : Type 0} (r : Result X E) → P → OnErr r P
 on-err (Ok x) p = tt
 on-err (Err e) p = p
 
--- what is entered of a client's call is read off the history
+-- what is entered for a client's call is read off the history
 pub entered-as : (h : History) (c object : ℕ) (role : Role) (clock : Clock)
     (deadline : Option Timespec) (at priority : ℕ) (nanos : Option ℕ) → at ≡ place h
     → priority ≡ unwrap_or (client h c) 0 → nanos ≡ option_map deadline_nanos deadline

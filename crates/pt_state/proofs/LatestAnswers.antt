@@ -43,7 +43,7 @@ pub record IsLatest (h : History) (c j : ℕ) : Type 0 where
 abbrev AreLatest : History → Type 0
 AreLatest h = (c j : ℕ) → latest h c ≡ Some j → IsLatest h c j
 
--- the latest calls stay where no call is added
+-- the latest calls stay if no call is added
 later : (h : History) (e : Entry) (c j : ℕ) → ((d : ℕ) → latest (h ▷ e) d ≡ latest h d)
     → IsLatest h c j
     → IsLatest (h ▷ e) c j
@@ -116,7 +116,7 @@ are-latest h f =
     by_steps AreLatest (λ c j l. absurd cc) (λ h e f ih s. latest_step h e ih s)
     (λ h f ih. latest_sealed h ih) h f
 
--- the answer to the latest call is the same where neither the call changes nor its answer
+-- the answer to the latest call is the same if neither the call nor its answer changes
 pub answer-same : (h g : History) (c : ℕ) → latest g c ≡ latest h c
     → ((j : ℕ) → latest h c ≡ Some j → outcome g j ≡ outcome h j)
     → latest_answer g c ≡ latest_answer h c
@@ -133,7 +133,7 @@ pub answer-quiet : (h : History) (e : Entry) (c : ℕ) → latest (h ▷ e) c �
 answer-quiet h e c l t =
     answer-same h (h ▷ e) c l (λ j k. ap (λ ts. option_or (outcome_in ts j) (outcome h j)) t)
 
--- a call: it is its client's latest
+-- a call is its client's latest
 pub answer-called : (h : History) (c : ℕ) (call : Asked) (r : Option Outcome) → Fresh h
     → latest_answer (h ▷ Call c call r) c ≡ r
 answer-called h c call r f =
@@ -225,7 +225,7 @@ module _ (h : History) (f : Follows h) (b : ℕ) where
           (l ∙ ap Some (sym at)) in
           absurd (false≢true (sym (t r.0 i.0 by) ∙ i.1))
 
--- a seal keeps the answer to a living client's latest call
+-- a seal leaves the answer to a living client's latest call unchanged
 pub answer-sealed : (h : History) → Follows h → (c : ℕ) → is_alive h c ≡ true
     → latest_answer (Begin (seal h)) c ≡ latest_answer h c
 answer-sealed h f c a =

@@ -1,4 +1,5 @@
--- ObjectCalls: what is stored of all objects, after a call that changes none of them but a count.
+-- ObjectCalls: what is stored of all objects, after a call that changes none of them, or only adds
+-- a reader's row.
 use Rattle.std.proofs.Common.{◌≡◌, ℕ, Bool, true, false, cond, ◌⊎◌, inl, inr, ◌==◌, ◌∷◌, [], Option}
 use Rattle.std.proofs.Common.{Some, is_some, refl, sym, ap, ◌∙◌, subst, arith}
 use Rattle.std.proofs.lemmas.Bool.Decides.{nat_tests}
@@ -50,7 +51,7 @@ pub record Spares (h : History) (E : Effect) (o : ℕ) : Type 0 where
   pub mends : mends E o ≡ false
   pub returns : returns_it E o ≡ false
 
--- so nothing changes that is read off of it
+-- so nothing that is read off this object changes
 pub quiet-call : (h : History) (c : ℕ) (call : Asked) → Follows h → (o : ℕ)
     → Spares h (does h c call) o → Quiet h (behind h c call) o
 quiet-call h c call f o s =
@@ -72,7 +73,7 @@ call-readers h c call f s E e none =
     old-readers h (Call c call (reply (verdict h c call))) f s
     (λ w i r. none w (subst (λ (X : Effect). In w (left_by X)) e i) r)
 
--- whether a call of this role changes nothing by waiting
+-- whether a call of this role changes nothing when it waits
 abbrev pub is_plain : Role → Bool
 is_plain ForMutex = true
 is_plain ForWrite = true
@@ -130,7 +131,7 @@ idle-unread (Frees m) t w i r = i
 idle-unread (Mends m) t w i r = i
 idle-unread (Returns m) t w i r = i
 
--- a change of one row leaves the read locks in the others
+-- a change of one row leaves the read locks in the others unchanged
 pub reads-changed : (r r' : RwlockState) (c n : ℕ) → ChangesRow r r' c (Some n) → (d : ℕ)
     → reads_of r' d ≡ cond (c == d) n (reads_of r d)
 reads-changed r r' c n change d = ap (λ o. unwrap_or o 0) (change d) ∙ go (c == d)
@@ -148,7 +149,7 @@ rows-changed r r' c n change d t = ap is_some (change d) ∙ go (c == d)
     go true = refl
     go false = t
 
--- a row that is made changes neither the writer
+-- a new row leaves the writer unchanged
 row-writer : (r : RwlockState) (c : ℕ) → (with_row r c).writer ≡ r.writer
 row-writer r c = go (is_some (row_of r c)) refl
   where
@@ -156,7 +157,7 @@ row-writer r c = go (is_some (row_of r c)) refl
     go true e = rw e refl
     go false e = rw e refl
 
--- nor any read lock
+-- and every read lock
 row-reads : (r r' : RwlockState) (c : ℕ) → ChangesRow r r' c (Some (reads_of r c)) → (d : ℕ)
     → reads_of r' d ≡ reads_of r d
 row-reads r r' c change d = reads-changed r r' c (reads_of r c) change d ∙ go (c == d) refl
@@ -166,7 +167,7 @@ row-reads r r' c change d = reads-changed r r' c (reads_of r c) change d ∙ go 
     go false e = refl
 
 module _ {A : Type 0} where
-  -- a call that changes no object leaves the same look-up
+  -- the same look-up is right after a call that changes no object
   pub object_rows-idle : (h : History) (look : ℕ → Option (Object A)) (c : ℕ) (call : Asked)
       → Follows h
       → Step h (Call c call (reply (verdict h c call))) → ObjectsLook h look
@@ -176,7 +177,7 @@ module _ {A : Type 0} where
       (λ o. quiet-call h c call f o (idle-spares h (does h c call) o e))
       (call-readers h c call f s (does h c call) refl (idle-unread (does h c call) e))
 
-  -- and so does one that waits for a read lock, where its client has a row
+  -- and after one that waits for a read lock, if its client has a row
   pub object_rows-read : (h : History) (look : ℕ → Option (Object A)) (c : ℕ) (call : Asked)
       (w : WaitingCall) → Follows h → Step h (Call c call (reply (verdict h c call)))
       → ObjectsLook h look → does h c call ≡ Waits w → w.role ≡ ForRead
@@ -219,7 +220,7 @@ module _ {A : Type 0} where
       go o r k rows v a at (inl i) = rows v i a at
       go o r k rows v a at (inr i) = new o r k v at (subst (λ (E : Effect). In v (left_by E)) e i)
 
-  -- a row that is made changes nothing that is read off
+  -- a new row changes nothing that is read off the lock
   pub object_rows-row : (h : History) (look look' : ℕ → Option (Object A)) (o c : ℕ)
       (r r' : RwlockState) → ObjectsLook h look → look o ≡ Some (Rwlock r) → r' ≡ with_row r c
       → ChangesRow r r' c (Some (reads_of r c))

@@ -34,7 +34,7 @@ use Rattle.pt_records.specs.Objects.{ObjectsLook}
 use Rattle.pt_state.proofs.OneObject.{IsKept, object_rows-one, mutex-changed}
 use Rattle.pt_state.proofs.ObjectCalls.{does, behind, Spares, quiet-call, call-readers}
 
--- a mutex is seen by its parts
+-- the view of a mutex consists of its parts
 pub view-parts : (g : History) (m : ℕ) (k : Option ObjectKind) (d : Consistency) (o : Option ℕ)
     (n : ℕ) → kind_of g m ≡ k → consistency g m ≡ d → owner g m ≡ o → count_if g m o ≡ n
     → mutex_view g m ≡ record {
@@ -48,12 +48,12 @@ view-parts g m k d o n ek ed eo en = rw (ek, ed, eo, en) refl
 
 module _ (h : History) (c : ℕ) (call : Asked) (f : Follows h)
     (s : Step h (Call c call (reply (verdict h c call)))) (m : ℕ) where
-  -- a call that is no init and no destroy leaves the kinds
+  -- a call that is no init and no destroy leaves the kinds unchanged
   kind_same : kind_effect (place h) (does h c call) (kind_of h m) m ≡ kind_of h m
       → kind_of (behind h c call) m ≡ kind_of h m
   kind_same e = kind-call h c call (reply (verdict h c call)) (kind_of h m) m ∙ e
 
-  -- a mutex that its owner locks once more
+  -- the view of a mutex after its owner locks it once more
   relocked : does h c call ≡ Relocks m
       → mutex_view (behind h c call) m ≡ acquired (mutex_view h m) c
   relocked e =
@@ -75,7 +75,7 @@ module _ (h : History) (c : ℕ) (call : Asked) (f : Follows h)
       (kind_same (rw e refl)) consistency' owner' (omega (arith, more))
       ∙ rw own refl
 
-  -- a mutex of which its owner gives a lock back
+  -- the view of a mutex after its owner gives back a lock
   given_back : gives_up (does h c call) m ≡ true → mends (does h c call) m ≡ false
       → kind_effect (place h) (does h c call) (kind_of h m) m ≡ kind_of h m
       → mutex_view (behind h c call) m ≡ released (mutex_view h m)
@@ -118,7 +118,7 @@ module _ (h : History) (c : ℕ) (call : Asked) (f : Follows h)
           (owner-call h c call f s m ∙ rw (gives, e) by) less
           ∙ sym (rw (by, more) refl)
 
-  -- a mutex that its owner makes consistent
+  -- the view of a mutex after its owner makes it consistent
   mended : does h c call ≡ Mends m
       → mutex_view (behind h c call) m ≡ restored (mutex_view h m)
   mended e =
@@ -135,7 +135,7 @@ module _ (h : History) (c : ℕ) (call : Asked) (f : Follows h)
           count-call h c call (reply (verdict h c call)) m d (resolved h c call)
           (Balanced-follows h f) ∙ rw e refl
 
--- a wait that begins gives a lock of its mutex back, and is no reader
+-- a wait that begins gives back a lock of its mutex, and is no reader
 wait-gives : (w : WaitingCall) (m : ℕ) → w.role ≡ ForCond m → awaited w.role m ≡ true
 wait-gives w m e = rw e (let here : (m == m) ≡ true = grind (arith, nat_tests) in here)
 
@@ -148,7 +148,7 @@ wait-unread w v m e (inr i) r = i
 module _ {A : Type 0} (h : History) (look look' : ℕ → Option (Object A)) (c : ℕ) (call : Asked)
     (f : Follows h) (s : Step h (Call c call (reply (verdict h c call)))) (t : ObjectsLook h look)
   where
-    -- one object is changed by a call that lets nobody wait for a read lock
+    -- a call that lets nobody wait for a read lock changes one object
     pub call-one : (E : Effect) (q : ℕ) (x : Option (Object A)) → does h c call ≡ E
         → ((o : ℕ) → look' o ≡ cond (q == o) x (look o))
         → ((o : ℕ) → (q == o) ≡ false → Spares h E o)

@@ -1,4 +1,4 @@
--- ObjectEntries: what is stored of all objects, after each entry but calls and grants.
+-- ObjectEntries: what is stored of all objects, after each entry except calls and grants.
 use Rattle.std.proofs.Common.{◌≡◌, ℕ, suc, true, cond, ◌⊎◌, inl, inr, ◌==◌, nat_lt, Option, Some}
 use Rattle.std.proofs.Common.{None, refl, ap, ◌∙◌, arith}
 use Rattle.std.proofs.lemmas.Bool.Decides.{nat_tests}
@@ -36,14 +36,14 @@ writer-same h e r f same =
     ∙ first_below-more (place h) (λ c. writes h r c)
     ((Unheld-follows h f).writers r (place h) (omega arith))
 
--- an entry that changes neither the consistency nor a count leaves the sight of a mutex
+-- an entry that changes neither the consistency nor a count leaves the view of a mutex unchanged
 pub view-counts : (h : History) (e : Entry) (m : ℕ) → Follows h → kind_of (h ▷ e) m ≡ kind_of h m
     → consistency (h ▷ e) m ≡ consistency h m → ((c : ℕ) → count (h ▷ e) m c ≡ count h m c)
     → mutex_view (h ▷ e) m ≡ mutex_view h m
 view-counts h e m f k d n =
     view-same h (h ▷ e) m k d (owner-same h e m f (λ c. ap (nat_lt 0) (n c))) n
 
--- nothing has changed of an object where nothing has that is summed up
+-- an object is read as before if its kind, its consistency and all locks on it are as before
 pub quiet-parts : (h : History) (e : Entry) (o : ℕ) → Follows h → kind_of (h ▷ e) o ≡ kind_of h o
     → consistency (h ▷ e) o ≡ consistency h o → ((c : ℕ) → count (h ▷ e) o c ≡ count h o c)
     → ((c : ℕ) → writes (h ▷ e) o c ≡ writes h o c)
@@ -107,7 +107,7 @@ module _ {A : Type 0} where
       (λ o. quiet-parts h (Expire j) o f refl refl (λ c. refl) (λ c. refl) (λ c. refl))
       (old-readers h (Expire j) f s (λ w i e. i))
 
--- what a Yield makes of its mutex
+-- the view of a mutex after its Yield
 yielded-view : (h : History) (m : ℕ) → Follows h
     → mutex_view (h ▷ Yield m) m ≡ yielded (mutex_view h m)
 yielded-view h m f =

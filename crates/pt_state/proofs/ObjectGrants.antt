@@ -39,7 +39,7 @@ use Rattle.pt_state.proofs.ObjectChanges.{view-parts}
 abbrev pub after_grant : History → WaitingCall → History
 after_grant h w = h ▷ Grant w.place (grant_outcome h w)
 
--- a call that is granted may be
+-- a call that is granted may be granted
 pub granted-may : (h : History) (w : WaitingCall) → Follows h → In w (open_calls h)
     → Step h (Grant w.place (grant_outcome h w)) → is_grantable h w ≡ true
 granted-may h w f i s =
@@ -79,7 +79,7 @@ module _ (h : History) (w : WaitingCall) (f : Follows h) (i : In w (open_calls h
   readers_grant : OldReaders h (after_grant h w)
   readers_grant = old-readers h (Grant w.place (grant_outcome h w)) f s (λ v j role. j)
 
-  -- whoever has locks on a mutex as it is granted is the one to whom it is
+  -- a client that has locks on a mutex when it is granted is the one that it is granted to
   had_before : (m : ℕ) → mutex_of w.role w.object ≡ Some m
       → is_acquired (grant_outcome h w) ≡ true
       → count_if h m (owner h m) ≡ count h m w.client

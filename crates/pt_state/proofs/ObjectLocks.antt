@@ -1,4 +1,5 @@
--- ObjectLocks: what is stored of all objects, after a call that makes one or gives back a lock.
+-- ObjectLocks: what is stored of all objects, after a call that makes an object or gives back a
+-- lock.
 use Rattle.std.proofs.Common.{◌≡◌, ℕ, suc, ◌-◌, ◌<◌, Bool, true, false, cond, ◌==◌, List, Option}
 use Rattle.std.proofs.Common.{Some, None, refl, sym, ap, ◌∙◌, subst, arith}
 use Rattle.std.proofs.lemmas.Bool.Decides.{nat_tests}
@@ -43,7 +44,7 @@ use Rattle.pt_state.proofs.ObjectUnmade.{unmade-all, writer-unmade, lock-below}
 use Rattle.pt_state.proofs.ObjectCalls.{does, behind, call-readers, reads-changed, rows-changed}
 use Rattle.pt_state.proofs.ObjectChanges.{view-parts, call-one}
 
--- who waits for a read lock does so at one that exists
+-- a call for a read lock waits at a lock that exists
 reader-below : (h : History) → Follows h → (w : WaitingCall) → In w (open_calls h)
     → w.role ≡ ForRead → w.object < place h
 reader-below h f w i e =
@@ -54,14 +55,14 @@ reader-below h f w i e =
 module _ (h : History) (c : ℕ) (call : Asked) (f : Follows h)
     (s : Step h (Call c call (reply (verdict h c call)))) (n : List ℕ) (k : ObjectKind)
     (e : does h c call ≡ Creates n k) where
-  -- what is made is of its kind
+  -- the object that is made is of its kind
   new_kind : kind_of (behind h c call) (place h) ≡ Some k
   new_kind =
       let here : (place h == place h) ≡ true = grind (arith, nat_tests) in
       kind-call h c call (reply (verdict h c call)) (kind_of h (place h)) (place h)
       ∙ rw (e, here) refl
 
-  -- as a mutex it is in order, and nobody has it
+  -- if it is a mutex, it is consistent, and nobody owns it
   new_view : (m : MutexKind) (robust : Bool) → k ≡ kind.Mutex m robust
       → mutex_view (behind h c call) (place h) ≡ (made_mutex m robust).seen
   new_view m robust same =
@@ -72,7 +73,7 @@ module _ (h : History) (c : ℕ) (call : Asked) (f : Follows h)
       (owner-call h c call f s (place h) ∙ rw e (owner-unmade h f (place h) (omega arith)))
       refl
 
-  -- as a read-write lock nobody has it or waits for it
+  -- if it is a read-write lock, nobody holds it or waits for it
   new_lock : IsRwlock (behind h c call) (place h) made_rwlock
   new_lock =
       record {
@@ -90,7 +91,7 @@ module _ (h : History) (c : ℕ) (call : Asked) (f : Follows h)
 module _ {A : Type 0} (h : History) (look look' : ℕ → Option (Object A)) (c : ℕ) (call : Asked)
     (f : Follows h) (s : Step h (Call c call (reply (verdict h c call)))) (t : ObjectsLook h look)
   where
-    -- what is made is stored as it is new
+    -- the object that is made is stored as a new one
     new_kept : (n : List ℕ) (k : ObjectKind) → does h c call ≡ Creates n k → (x : Object A)
         → IsNew x k → IsKept (behind h c call) (place h) (Some x)
     new_kept n (kind.Mutex m robust) e (Mutex x) new =
@@ -163,7 +164,7 @@ module _ (h : History) (c : ℕ) (call : Asked) (f : Follows h)
   readers_old : OldReaders h (behind h c call)
   readers_old = call-readers h c call f s (Returns o) e (λ w i role. i)
 
-  -- the writer has the lock no more
+  -- the writer no longer has the lock
   by_writer : is_number r.writer c ≡ true
       → IsRwlock (behind h c call) o (record r { writer = None })
   by_writer b =

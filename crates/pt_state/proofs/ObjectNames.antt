@@ -38,7 +38,7 @@ use Rattle.pt_state.proofs.ObjectCalls.{does, behind}
 abbrev pub numbered : History → List ℕ → Option ℕ
 numbered h n = option_map (λ x. x.number) (object_named h n)
 
--- what is found of each name is what is read off the history
+-- the number that is found for each name is the one that is read off the history
 abbrev pub NamesLook : History → (List ℕ → Option ℕ) → Type 0
 NamesLook h names = (n : List ℕ) → names n ≡ numbered h n
 
@@ -78,7 +78,7 @@ numbered_cond : (b : Bool) (x y : Option Named_object)
 numbered_cond true x y = refl
 numbered_cond false x y = refl
 
--- a call that is no init and no destroy leaves the names
+-- a call that is no init and no destroy leaves the names unchanged
 pub names-same : (h : History) (c : ℕ) (call : Asked) (names : List ℕ → Option ℕ)
     → names_none (does h c call) ≡ true → NamesLook h names → NamesLook (behind h c call) names
 names-same h c call names e t n =
@@ -122,7 +122,7 @@ one-name h f m n q e g =
     let p = numbered_some (object_named h n) q g in
     (Named-follows h f).single m n o.0 p.0 o.1.0 p.1.0 (o.1.1 ∙ sym p.1.1)
 
--- what is destroyed bears the name that is asked
+-- an object that is destroyed bears the name that its call gives
 pub removed-name : (h : History) (c : ℕ) (n : List ℕ) (class : ObjectClass) (q : ℕ)
     → Allowed h c (Removes n class q) → numbered h n ≡ Some q
 removed-name h c n class q a =
@@ -150,7 +150,7 @@ removed-only h f c m class q a n = go (same_name m n) (is_number (numbered h n) 
         (number-is (numbered h n) q ed) in
         sym (sym (named_same m n same) ∙ eb)
 
--- a table that drops the number of what is destroyed drops its name alone
+-- a table that drops the number of the destroyed object drops its name alone
 pub names-drops : (h : History) (c : ℕ) (call : Asked) (names names' : List ℕ → Option ℕ)
     (m : List ℕ) (class : ObjectClass) (q : ℕ) → Follows h → does h c call ≡ Removes m class q
     → NamesLook h names
@@ -228,7 +228,7 @@ objects_kept (Waits w) before t = refl
 objects_kept (Creates m kind) before t = absurd (false≢true t)
 objects_kept (Removes m class q) before t = absurd (false≢true t)
 
--- as many, where it is no init and no destroy
+-- as many as before, if the call is no init and no destroy
 pub objects-same : (h : History) (c : ℕ) (call : Asked) → names_none (does h c call) ≡ true
     → objects (behind h c call) ≡ objects h
 objects-same h c call e =

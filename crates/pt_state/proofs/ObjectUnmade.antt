@@ -1,4 +1,4 @@
--- ObjectUnmade: what is read off of objects that aren't made yet.
+-- ObjectUnmade: what is read off the history for objects that aren't made yet.
 use Rattle.std.proofs.Common.{◌≡◌, ℕ, ◌<◌, ◌≤◌, Bool, true, false, cond, ◌&&◌, ◌==◌, Option, Some}
 use Rattle.std.proofs.Common.{None, refl, sym, ap, ◌∙◌, arith}
 use Rattle.std.proofs.lemmas.Bool.Decides.{nat_tests}
@@ -39,13 +39,13 @@ use Rattle.pt_model.proofs.Apart.{owner-unmade}
 use Rattle.pt_model.proofs.Counts.{owning-owner, gives_up-owns}
 use Rattle.pt_model.proofs.Rwlocks.{writes-grant, reads-grant}
 
--- an object that isn't made yet is in order, and nobody holds it
+-- an object that isn't made yet is consistent, and nobody holds it
 pub record Unmade (h : History) : Type 0 where
   pub consistencies : (m : ℕ) → place h ≤ m → consistency h m ≡ Consistent
   pub writers : (r c : ℕ) → place h ≤ r → writes h r c ≡ false
   pub readers : (r c : ℕ) → place h ≤ r → reads h r c ≡ 0
 
--- what makes a mutex consistent is its owner's
+-- a call that makes a mutex consistent is its owner's
 pub mends-owns : (h : History) (c : ℕ) (E : Effect) (m : ℕ) → Allowed h c E → mends E m ≡ true
     → owning h m c ≡ true
 mends-owns h c (Mends k) m a t =
@@ -59,19 +59,19 @@ mends-owns h c (Returns r) m a t = absurd (false≢true t)
 mends-owns h c (Wakes n all) m a t = absurd (false≢true t)
 mends-owns h c (Waits w) m a t = absurd (false≢true t)
 
--- what isn't made yet has no owner
+-- a mutex that isn't made yet has no owner
 unowned : (h : History) (m c : ℕ) → Follows h → place h ≤ m → owning h m c ≡ true → ⊥
 unowned h m c f le t =
     let no : ◌≡◌ {A = Option ℕ} None (Some c) =
     sym (owner-unmade h f m le) ∙ owning-owner h m c t in
     absurd cc
 
--- a lock at which a call stands for reading or writing is made
+-- a number at which a read-write lock exists is below the place
 pub lock-below : (h : History) → Follows h → (q : ℕ) → exists_as h RwlockClass q ≡ true
     → q < place h
 lock-below h f q t = kind_below h q (Fresh-follows h f) (class_exists (kind_of h q) RwlockClass t)
 
--- so no such call is for what isn't made yet
+-- so no call for a read or write lock is for an object that isn't made yet
 elsewhere : (h : History) → Follows h → (role : Role) (o : Option Move) (q r : ℕ) (b : Bool)
     → HousedBy h role o q → place h ≤ r
     → (reads_there role ((q == r) && b) ≡ false) × (writes_there role ((q == r) && b) ≡ false)
@@ -190,7 +190,7 @@ unmade-all h f =
       readers = λ r c le. kept_zero (is_rwlock h r) (reads h r c) (u.readers r c le);
     }) h f
 
--- so it has no writer
+-- so a lock that isn't made yet has no writer
 pub writer-unmade : (h : History) → Follows h → (r : ℕ) → place h ≤ r → writer h r ≡ None
 writer-unmade h f r le =
     first_below-nowhere (place h) (λ c. writes h r c)

@@ -1,4 +1,4 @@
--- OneObject: what is stored of one object, and of all objects where one of them changes.
+-- OneObject: what is stored of one object, and of all objects if one of them changes.
 use Rattle.std.proofs.Common.{◌≡◌, ℕ, Bool, true, false, cond, ◌==◌, Option, Some, None, is_some}
 use Rattle.std.proofs.Common.{option_map, refl, sym, ap, ◌∙◌, subst, arith}
 use Rattle.std.proofs.lemmas.Bool.Decides.{nat_tests}
@@ -25,7 +25,7 @@ pub number-is : (o : Option ℕ) (c : ℕ) → is_number o c ≡ true → o ≡ 
 number-is None c e = absurd cc
 number-is (Some d) c e = let same : d ≡ c = grind (arith, nat_tests) in ap Some same
 
--- who reads at the lock has a row
+-- each client that waits for a read lock at this lock has a row there
 abbrev pub HasRows : History → ℕ → RwlockState → Type 0
 HasRows h o r =
     (w : WaitingCall) → In w (open_calls h) → w.role ≡ ForRead → w.object ≡ o
@@ -35,14 +35,14 @@ HasRows h o r =
 abbrev pub OldReaders : (h g : History) → Type 0
 OldReaders h g = (w : WaitingCall) → In w (open_calls g) → w.role ≡ ForRead → In w (open_calls h)
 
--- nothing that is read off of this object has changed
+-- nothing that is read off this object has changed
 pub record Quiet (h g : History) (o : ℕ) : Type 0 where
   pub kind : kind_of g o ≡ kind_of h o
   pub view : mutex_view g o ≡ mutex_view h o
   pub writer : writer g o ≡ writer h o
   pub reads : (c : ℕ) → reads g o c ≡ reads h o c
 
--- a mutex is seen as before where its parts are as before
+-- the view of a mutex is as before if its parts are as before
 pub view-same : (h g : History) (m : ℕ) → kind_of g m ≡ kind_of h m
     → consistency g m ≡ consistency h m → owner g m ≡ owner h m
     → ((c : ℕ) → count g m c ≡ count h m c) → mutex_view g m ≡ mutex_view h m
@@ -52,7 +52,7 @@ view-same h g m k d o n = rw (k, d, o, counted (owner h m)) refl
     counted None = refl
     counted (Some c) = n c
 
--- rows that all had are enough for those that still read
+-- if each client that waited to read had a row, so has each that still waits
 pub rows-old : (h g : History) (o : ℕ) (r : RwlockState) → OldReaders h g → HasRows h o r
     → HasRows g o r
 rows-old h g o r old rows = λ w i e a. rows w (old w i e) e a
@@ -95,7 +95,7 @@ module _ {A : Type 0} where
             };
       }
 
-  -- where nothing changed but who reads
+  -- a look-up stays right if nothing has changed except who waits to read
   pub object_rows-still : (h g : History) (look : ℕ → Option (Object A)) → ObjectsLook h look
       → ((o : ℕ) → Quiet h g o)
       → ((o : ℕ) (r : RwlockState) → look o ≡ Some (Rwlock r) → HasRows h o r → HasRows g o r)
@@ -104,13 +104,13 @@ module _ {A : Type 0} where
       object_rows-each g look
       (λ o. kept-quiet h g o (look o) (quiet o) (rows o) (kept-at h look t o))
 
-  -- where nothing changed at all
+  -- and if nothing has changed at all
   pub object_rows-quiet : (h g : History) (look : ℕ → Option (Object A)) → ObjectsLook h look
       → ((o : ℕ) → Quiet h g o) → OldReaders h g → ObjectsLook g look
   object_rows-quiet h g look t quiet old =
       object_rows-still h g look t quiet (λ o r e rows. rows-old h g o r old rows)
 
-  -- where nothing changed but one object
+  -- a look-up in which one object is written is right if nothing else has changed
   pub object_rows-one : (h g : History) (look look' : ℕ → Option (Object A)) (q : ℕ)
       (x : Option (Object A)) → ObjectsLook h look
       → ((o : ℕ) → look' o ≡ cond (q == o) x (look o))
@@ -127,7 +127,7 @@ module _ {A : Type 0} where
           kept-quiet h g o (look o) (quiet o e) (λ r k rows. rows-old h g o r old rows)
           (kept-at h look t o)
 
-  -- a mutex is stored right if it is as it is seen
+  -- a stored mutex is right if it is stored as it is seen
   pub kept-mutex : (g : History) (m : ℕ) (y : MutexState) (k : MutexKind) (robust : Bool)
       → kind_of g m ≡ Some (kind.Mutex k robust) → y.seen ≡ mutex_view g m → y.bound_waits ≡ 0
       → IsKept g m (Some (Mutex y))
@@ -138,7 +138,7 @@ module _ {A : Type 0} where
         rwlock = λ r f. absurd cc;
       }
 
-  -- a mutex of which the sight has changed, and not the kind
+  -- a mutex whose view has changed, but not its kind
   pub mutex-changed : (h g : History) (look : ℕ → Option (Object A)) → ObjectsLook h look
       → (m : ℕ) (x : MutexState) → look m ≡ Some (Mutex x) → kind_of g m ≡ kind_of h m
       → (change : MutexView → MutexView) → mutex_view g m ≡ change (mutex_view h m)
@@ -148,7 +148,7 @@ module _ {A : Type 0} where
       kept-mutex g m (record x { seen = change x.seen }) x.seen.kind x.seen.robust
       (k ∙ (sym (t.kinds m) ∙ ap (option_map kind_in_row) e)) (ap change old.0 ∙ sym v) old.1
 
-  -- a read-write lock is stored right if it is as it is read off
+  -- a stored read-write lock is right if it is stored as it is read off the history
   pub kept-rwlock : (g : History) (o : ℕ) (r : RwlockState) → kind_of g o ≡ Some kind.Rwlock
       → IsRwlock g o r → IsKept g o (Some (Rwlock r))
   kept-rwlock g o r e k =
@@ -158,7 +158,7 @@ module _ {A : Type 0} where
         rwlock = λ z f. let same : r ≡ z = cc in subst (λ y. IsRwlock g o y) same k;
       }
 
-  -- the same of one that was a read-write lock before
+  -- the same for an object that was a read-write lock before
   pub rwlock-changed : (h g : History) (look : ℕ → Option (Object A)) → ObjectsLook h look
       → (o : ℕ) (r r' : RwlockState) → look o ≡ Some (Rwlock r) → kind_of g o ≡ kind_of h o
       → IsRwlock g o r' → IsKept g o (Some (Rwlock r'))

@@ -1,4 +1,4 @@
--- Rows of clients that differ in what their clients own alone: they say the same of the history.
+-- Rows of clients that differ only in what their clients own: they say the same of the history.
 use Rattle.std.proofs.Common.{◌≡◌, ℕ, Bool, true, false, cond, ◌==◌, ◌||◌, nat_eq, List, [], ◌∷◌}
 use Rattle.std.proofs.Common.{Option, Some, None, length, refl, sym, ap, ◌∙◌, subst}
 use Rattle.std.specs.Prelude.{option_map}
@@ -31,7 +31,7 @@ bare-open : (o : Option Caller) → open_in (option_map bare o) ≡ open_in o
 bare-open None = refl
 bare-open (Some v) = refl
 
--- where one finds a row, the other does
+-- if one look-up finds a row, the other finds it too
 pub found-bare : (o p : Option Caller) → option_map bare p ≡ option_map bare o → (v : Caller)
     → p ≡ Some v → (u : Caller) × (o ≡ Some u) × (bare v ≡ bare u)
 found-bare None p e v k =
@@ -39,7 +39,7 @@ found-bare None p e v k =
 found-bare (Some u) p e v k =
     let is : Some (bare v) ≡ Some (bare u) = sym (ap (option_map bare) k) ∙ e in (u, refl, cc)
 
--- so both are what is read off the history
+-- so if one is right for the history, the other is too
 pub look-bare : (h : History) (look other : ℕ → Option Caller) → FindsSame look other
     → CallersLook h look → CallersLook h other
 look-bare h look other same l =
@@ -58,7 +58,7 @@ look-bare h look other same l =
     opens : (c : ℕ) → open_in (other c) ≡ open_in (look c)
     opens c = sym (bare-open (other c)) ∙ (ap open_in (same c) ∙ bare-open (look c))
 
--- rows of clients that find the same
+-- and rows that find the same are right for the same history
 pub callers-bare : (h : History) (old new : List (ClientRow Caller))
     → FindsSame (client_value old) (client_value new) → length new ≡ length old → Once new
     → AreCallers h old → AreCallers h new
@@ -121,7 +121,7 @@ module _ (old new : List (ClientRow Caller)) (e : unowned new ≡ unowned old) w
   callers-unowned h a =
       callers-bare h old new finds-unowned many-unowned (once-unowned a.once) a
 
-  -- who has a row in one has a row in the other
+  -- a client that has a row in one list has a row in the other
   pub there-unowned : (c : ℕ) → (v : Caller) × (client_value old c ≡ Some v)
       → (v : Caller) × (client_value new c ≡ Some v)
   there-unowned c there =
@@ -141,7 +141,7 @@ module _ (old new : List (ClientRow Caller)) (e : unowned new ≡ unowned old) w
       go true = ap Some same
       go false = finds-unowned d
 
-  -- rows in which one is written are right in both, where they are in one
+  -- if one row is written in both lists, they are both right if one is
   pub written-unowned : (g h : History) (c : ℕ) (change : Caller → Caller)
       → ((u v : Caller) → bare u ≡ bare v → bare (change u) ≡ bare (change v))
       → AreCallers g old

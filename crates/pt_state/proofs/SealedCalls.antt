@@ -41,7 +41,7 @@ found-call (o ∷ opens) j r e = go (o.call.place == j) refl e (found-call opens
         (o, (inl refl, (same, at)))
     go false t e ih = let x = ih e in (x.0, (inr x.1.0, x.1.1))
 
--- where none is found, no row has it
+-- if none is found, no row has it
 no-call : (opens : List Open) (j : ℕ) → call_row (map call_start opens) j ≡ None
     → (o : Open) → In o opens → o.call.place ≡ j → ⊥
 no-call [] j e o i at = absurd i
@@ -75,7 +75,7 @@ at-in (x ∷ xs) j w e = go (x.place == j) refl e (at-in xs j w)
 module _ (h : History) (f : Follows h) (rows : List (ClientRow Caller)) (k : AreCallers h rows)
     (j : ℕ)
   where
-    -- no open call is at a place where no row has one
+    -- if no row has a call at this place, no open call is there
     nowhere : call_row (map call_start (opens_of rows)) j ≡ None → (w : WaitingCall)
         → In w (open_calls h) → w.place ≡ j → ⊥
     nowhere e w i at =

@@ -68,7 +68,7 @@ found-row (row ∷ rows) j r e = go (is_number row.value.latest j) refl e (found
     go true t e ih = let same : client_start row ≡ r = cc in (row, (inl refl, (same, t)))
     go false t e ih = let x = ih e in (x.0, (inr x.1.0, x.1.1))
 
--- where none is found, no row has it
+-- if none is found, no row has it
 no-row : (rows : List (ClientRow Caller)) (j : ℕ)
     → find (calls_at j) (map client_start rows) ≡ None → (row : ClientRow Caller) → In row rows
     → is_number row.value.latest j ≡ false

@@ -65,7 +65,7 @@ module _ {A : Type 0} where
       let apart : nat_eq row.number x.number ≡ false = above-all x.number rows row r.1 i in
       rw apart (value-there rows n r.2 row i)
 
-  -- what a row is of
+  -- the object that a row's name means
   abbrev meant : ObjectRow (Object A) → Named_object
   meant row = record { number = row.number; kind = kind_in_row row.value }
 
@@ -170,7 +170,7 @@ module _ {A : Type 0} where
                 same row.value (ap (option_map (λ row. row.value)) e)
                 ∙ sym (ap (λ o. cond (is_class o class) it none) (kind_at (Some row) e))
 
-        -- each client's locks on a mutex, dead ones' too
+        -- the locks of each client on a mutex, dead clients included
         pub sealed-count : (c : ℕ)
             → unwrap_or (option_map (λ r. count_in r.holders c)
             (object_row (map object_start rows) m)) 0 ≡ count_sealed h m c
@@ -202,7 +202,7 @@ module _ {A : Type 0} where
             same (Cond q) e = refl
             same (Barrier n) e = refl
 
-        -- whether a client has the write lock of a lock, dead or alive
+        -- whether a client, dead or alive, has the write lock of a lock
         pub sealed-writes : (c : ℕ)
             → unwrap_or (option_map (λ o. writes_in o.holders c)
             (object_row (map object_start rows) m)) false ≡ writes_sealed h m c

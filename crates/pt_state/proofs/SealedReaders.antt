@@ -109,7 +109,7 @@ module _ {A : Type 0} where
           let apart : (row.number == o) ≡ false = grind (arith, nat_tests) in
           other row.value apart ∙ ih
 
-  -- the read locks of each client, dead ones' too
+  -- the read locks of each client, dead clients included
   pub sealed-reads : (h : History) (rows : List (ObjectRow (Object A))) → AreObjects h rows
       → (o c : ℕ) → reads_in (readers_in rows) o c ≡ reads_sealed h o c
   sealed-reads h rows k o c =

@@ -25,7 +25,7 @@ use Rattle.pt_state.proofs.SealedObjects.{sealed-named, sealed-kind, sealed-coun
 use Rattle.pt_state.proofs.SealedObjects.{sealed-consistency, sealed-writes}
 use Rattle.pt_state.proofs.SealedReaders.{sealed-reads}
 
--- Starts of which the same is read are the same
+-- two Starts are the same if everything read off them is the same
 same-start : (a b : Start)
     → a.at ≡ b.at → a.outer ≡ b.outer → a.clock ≡ b.clock → a.client ≡ b.client
     → a.living ≡ b.living → a.latest ≡ b.latest → a.outcome ≡ b.outcome → a.named ≡ b.named

@@ -36,7 +36,7 @@ use Rattle.pt_state.proofs.ObjectChanges.{object_rows-awaits}
 use Rattle.pt_state.proofs.OneObject.{object_rows-one, kept-at, IsKept}
 use Rattle.pt_state.proofs.StandLemmas.{unanswered, step-told, does-waits, seated}
 
--- a call that only stands changes no object
+-- a call that only waits changes no object
 stands-plain : (role : Role) → only_stands role ≡ true → is_plain role ≡ true
 stands-plain ForMutex e = refl
 stands-plain ForWrite e = refl
@@ -52,7 +52,7 @@ row-there x x' c n change =
     ap is_some (change c) ∙ rw same refl
 
 module _ {A : Type 0} where
-  -- a row that is written with what stood there
+  -- a row that is written with the value that it had
   pub object_rows-again : (h : History) (old new : List (ObjectRow (Object A))) (o : ℕ)
       (x : Object A)
       → AreObjects h old → object_value old o ≡ Some x → WritesObject old new o x
@@ -90,7 +90,7 @@ module _ {A : Type 0} where
 
 module _ {A : Type 0} (s : State A) (c : ℕ) (call : Asked)
     (ready : IsReadyFor s (Call c call None)) (o : Open) (l : IsLeft (past s) c call o) where
-  -- where the look-up is right with the verdict's answer, it is so without one
+  -- a look-up that is right with the verdict's answer is also right without one
   without : (look : ℕ → Option (Object A))
       → ObjectsLook (past s ▷ Call c call (reply (verdict (past s) c call))) look
       → ObjectsLook (past s ▷ Call c call None) look
@@ -98,7 +98,7 @@ module _ {A : Type 0} (s : State A) (c : ℕ) (call : Asked)
       subst (λ (x : Option Outcome). ObjectsLook (past s ▷ Call c call x) look)
       (sym (unanswered s c call ready)) t
 
-  -- a call that only stands
+  -- a call that only waits
   pub object_rows-waiting : only_stands o.call.role ≡ true
       → AreObjects (past s ▷ Call c call None) s.objects
   object_rows-waiting e =
@@ -109,7 +109,7 @@ module _ {A : Type 0} (s : State A) (c : ℕ) (call : Asked)
       (ap is_idle (does-waits s c call ready o l) ∙ stands-plain o.call.role e)))
       (λ n. refl) refl
 
-  -- who waits for a read lock does so at one
+  -- a call for a read lock waits at a read-write lock
   pub lock-there : o.call.role ≡ ForRead
       → (x : RwlockState) × (object_value s.objects o.call.object ≡ Some (Rwlock x))
   lock-there e =
@@ -118,7 +118,7 @@ module _ {A : Type 0} (s : State A) (c : ℕ) (call : Asked)
       found-rwlock (past s) ready.read.follows (object_value s.objects) ready.read.object_rows.look
       seat.0.0 o.call.object seat.0.1
 
-  -- and has a row there
+  -- and its client has a row there
   pub object_rows-reading : (new : List (ObjectRow (Object A))) (x : RwlockState)
       → o.call.role ≡ ForRead
       → object_value s.objects o.call.object ≡ Some (Rwlock x)
@@ -146,7 +146,7 @@ module _ {A : Type 0} (s : State A) (c : ℕ) (call : Asked)
           subst (λ y. is_some (row_of y c) ≡ true) same
           (row-there x (with_row x c) c (reads_of x c) row)
 
-  -- who begins to wait owns the mutex
+  -- a client that begins to wait at a condition owns the mutex
   pub mutex-there : (m : ℕ) → o.call.role ≡ ForCond m
       → (x : MutexState) × (object_value s.objects m ≡ Some (Mutex x))
   mutex-there m e =
@@ -162,7 +162,7 @@ module _ {A : Type 0} (s : State A) (c : ℕ) (call : Asked)
       subst (λ (r : Role). Seated (past s) c r o.call.object) e (seated s c call ready o l) in
       ap (λ v. owns v c) (ready.read.object_rows.look.mutexes m x at).0 ∙ seat.1.1
 
-  -- and gives one lock of it back
+  -- and gives back one lock of it
   pub object_rows-waited : (new : List (ObjectRow (Object A))) (m : ℕ) (x : MutexState)
       → o.call.role ≡ ForCond m → object_value s.objects m ≡ Some (Mutex x)
       → WritesObject s.objects new m (Mutex (record x { seen = released x.seen }))

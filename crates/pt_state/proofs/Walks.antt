@@ -17,7 +17,7 @@ left-from xs i x e =
     ∙ (ap (λ y. y ∷ drop (suc i) xs) (get_or_from_slice_get xs i x x e)
     ∙ ap (λ k. x ∷ drop k xs) next)
 
--- where nothing is, the list has ended
+-- if there is no element at an index, the list has ended there
 ended-at : {X : Type 0} (xs : List X) (i : ℕ) → slice_get xs i ≡ None → length xs ≤ i
 ended-at {X} xs i e = go (slice_get_cases xs i).1
   where
@@ -26,14 +26,14 @@ ended-at {X} xs i e = go (slice_get_cases xs i).1
     go (inl p) = let there : slice_get xs i ≡ Some p.0 = p.2 in absurd cc
     go (inr p) = p.0
 
--- an element that is there or not, before others
+-- an element that may be missing, before others
 pub cons-listed : {X Y : Type 0} (f : X → Y) (o : Option X) (xs : List X)
     → map f (cons_option o xs) ≡ map f (option_to_list o) ++ map f xs
 cons-listed f None xs = refl
 cons-listed f (Some x) xs = refl
 
 module _ {X Y : Type 0} where
-  -- one element more was copied
+  -- one more element was copied
   pub walked-on : (g : List X → List Y) (f : X → List Y)
       → ((x : X) (xs : List X) → g (x ∷ xs) ≡ f x ++ g xs) → (xs : List X) (i : ℕ) (x : X)
       (so_far now all : List Y) → slice_get xs i ≡ Some x → so_far ++ g (drop i xs) ≡ all
@@ -52,7 +52,7 @@ module _ {X Y : Type 0} where
       ap (λ ys. so_far ++ g ys)
       (drop_of_length-le xs (omega (arith, end)) ∙ sym (drop_of_length-le xs end)) ∙ kept
 
-  -- where the walk is over, all was copied
+  -- once the walk is over, all was copied
   pub walked-through : (g : List X → List Y) → g [] ≡ [] → (xs : List X) (i len : ℕ)
       (so_far all : List Y) → len ≡ length xs → len ≤ i → so_far ++ g (drop i xs) ≡ all
       → so_far ≡ all

@@ -23,7 +23,7 @@ module _ {R : Type 0} {number : R → ℕ} {slots : List (Option R)} {numbers : 
   abbrev longer : List (ℕ × ℕ)
   longer = numbers ++ (number row, key) ∷ []
 
-  -- a slot with a number isn't the new one
+  -- a slot that has a number is not the new one
   older : (k n : ℕ) → number_in number slots k ≡ Some n → k ≢ key
   older k n e same =
       none_some (sym (ap (option_map number) (ap (row_in_slot slots) same ∙ vacant)) ∙ e)

@@ -1,4 +1,4 @@
--- For callers: chains and rows, as rows are linked, and as they are written, added or taken out.
+-- For callers: what changes in chains and rows as rows are linked, written, added or taken out.
 use Rattle.std.proofs.Common.{◌≡◌, ◌∙◌, ℕ, Bool, true, false, cond, not, nat_eq, List, [], ◌∷◌}
 use Rattle.std.proofs.Common.{Option, Some, None, is_some, refl, sym, ap, subst, arith, true≢false}
 use Rattle.std.specs.Option.{option_map, option_and_then}
@@ -50,7 +50,7 @@ module _ {T : Type 0} where
       go None = refl
       go (Some r) = refl
 
-  -- rows that differ in links alone are of the same objects, with the same values
+  -- rows that differ only in their links have the same objects, with the same values
   pub same-has : (old new : List (ObjectRow T)) → unlinked new ≡ unlinked old → (n : ℕ)
       → has_object new n ≡ has_object old n
   same-has old new e n =
@@ -67,7 +67,7 @@ module _ {T : Type 0} where
   chain-linked rows head numbers l m i =
       all-linked (next_number rows) (number_before rows) (is_linked rows) None head numbers l m i
 
-  -- a head has one chain, which rises if these numbers of it do
+  -- a head has one chain, so each list of its numbers rises if one does
   pub rising-each : (rows : List (ObjectRow T)) (head : Option ℕ) (ns : List ℕ)
       → IsChain rows head ns → IsRising ns
       → (ms : List ℕ) → IsChain rows head ms → IsRising ms
@@ -76,14 +76,14 @@ module _ {T : Type 0} where
       (same-list (next_number rows) (number_before rows) (is_linked rows) None head ns ms is l)
       rising
 
-  -- a chain that rises still does if it stays
+  -- a chain that rises still rises if it is unchanged
   pub rising-kept : (old new : List (ObjectRow T)) (head : Option ℕ) (ns : List ℕ)
       → IsChain old head ns → IsChain new head ns
       → ((ms : List ℕ) → IsChain old head ms → IsRising ms)
       → (ms : List ℕ) → IsChain new head ms → IsRising ms
   rising-kept old new head ns was is rise = rising-each new head ns is (rise ns was)
 
-  -- so does one without a number of it
+  -- so does a chain from which a number was taken out
   pub rising-left : (old new : List (ObjectRow T)) (head after : Option ℕ) (m : ℕ) (ns : List ℕ)
       → IsChain old head ns → IsChain new after (but_number ns m)
       → ((ms : List ℕ) → IsChain old head ms → IsRising ms)
@@ -91,7 +91,7 @@ module _ {T : Type 0} where
   rising-left old new head after m ns was is rise =
       rising-each new after (but_number ns m) is (rising-but m ns (rise ns was))
 
-  -- a chain stays if its rows' links do
+  -- a chain is unchanged if the links of its rows are
   pub chain-kept : (old new : List (ObjectRow T)) (h : Option ℕ) (ns : List ℕ)
       → ((m : ℕ) → IsOneOf ns m → link_of new m ≡ link_of old m) → IsChain old h ns
       → IsChain new h ns
@@ -104,7 +104,7 @@ module _ {T : Type 0} where
         ap linked_by (kept m i),
       )) l
 
-  -- a written value leaves all links
+  -- writing a value changes no link
   pub link-valued : (rows : List (ObjectRow T)) (n : ℕ) (value : T) (m : ℕ)
       → link_of (with_object rows n value) m ≡ link_of rows m
   link-valued [] n value m = refl
@@ -123,7 +123,7 @@ module _ {T : Type 0} where
       go ih true = found ih (record r { value = value }) refl (nat_eq m r.number)
       go ih false = found ih r refl (nat_eq m r.number)
 
-  -- a new row is in no chain, and leaves the others' links
+  -- a new row is in no chain, and changes no other link
   pub link-added : (rows : List (ObjectRow T)) (n : ℕ) (name : List ℕ) (value : T)
       → object_at rows n ≡ None → (m : ℕ) → link_of (and_object rows n name value) m
       ≡ cond (nat_eq m n) (Some out_of_chains) (link_of rows m)
@@ -153,7 +153,7 @@ module _ {T : Type 0} where
           sym (ap (λ c. cond c (Some out_of_chains) (Some r.link)) other)
       go ih false s new false t = ih new m
 
-  -- the row that is taken out leaves the others' links
+  -- taking a row out changes no other link
   pub link-removed : (rows : List (ObjectRow T)) (n m : ℕ) → nat_eq n m ≡ false
       → link_of (without_object rows n) m ≡ link_of rows m
   link-removed [] n m apart = refl
@@ -178,13 +178,13 @@ module _ {T : Type 0} where
           at true = refl
           at false = ih
 
-  -- so chains stay
+  -- so chains are unchanged
   pub chain-valued : (rows : List (ObjectRow T)) (n : ℕ) (value : T) (h : Option ℕ) (ns : List ℕ)
       → IsChain rows h ns → IsChain (with_object rows n value) h ns
   chain-valued rows n value h ns =
       chain-kept rows (with_object rows n value) h ns (λ m i. link-valued rows n value m)
 
-  -- a number of a chain has a link, so it isn't one that has no row, or that is in no chain
+  -- a number of a chain is linked, so it is not one that has no row or is in no chain
   listed-apart : (rows : List (ObjectRow T)) (n : ℕ) → is_linked rows n ≡ false → (h : Option ℕ)
       (ns : List ℕ) → IsChain rows h ns → (m : ℕ) → IsOneOf ns m → nat_eq m n ≡ false
   listed-apart rows n free h ns l m i = go (nat_eq m n) refl

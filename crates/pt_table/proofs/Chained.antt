@@ -1,4 +1,4 @@
--- Chains: what their numbers lead to, as one is put in or taken out.
+-- Chained: what the numbers of a chain lead to, as one is put in or taken out.
 use Rattle.std.proofs.Common.{◌≡◌, ◌∙◌, ℕ, Bool, true, false, cond, not, nat_eq, List, [], ◌∷◌}
 use Rattle.std.proofs.Common.{Option, Some, None, refl, sym, ap, subst, inl, inr, true≢false}
 use Rattle.std.proofs.lemmas.Bool.{eq-eqb}
@@ -35,7 +35,7 @@ but-first n m ns e out =
     ap (λ b. cond (not b) (m ∷ but_number ns n) (but_number ns n)) (eq-eqb n m e)
     ∙ but-none n ns (subst (λ x. IsOneOf ns x → ⊥) (sym e) out)
 
--- what is left was there
+-- a number that is left was in the list
 pub but-there : (n : ℕ) (ns : List ℕ) (k : ℕ) → IsOneOf (but_number ns n) k → IsOneOf ns k
 but-there n [] k i = absurd i
 but-there n (m ∷ ns) k i = go (but-there n ns k) (nat_eq n m) i
@@ -67,7 +67,7 @@ module _ (nx bf : ℕ → Option ℕ) (lk : ℕ → Bool) where
   next-listed p h (n ∷ ns) l m k (inr i) e =
       inr (next-listed (Some n) (nx n) ns l.4 m k i e)
 
-  -- what a number of the chain leads back to is in the chain, or is before it all
+  -- what a number of the chain leads back to is in the chain, or is before the whole chain
   pub before-listed : (p h : Option ℕ) (ns : List ℕ) → Leads nx bf lk p h ns → (m k : ℕ)
       → IsOneOf ns m → bf m ≡ Some k → (p ≡ Some k → ⊥) → IsOneOf ns k
   before-listed p h [] l m k i e out = absurd i
@@ -78,7 +78,7 @@ module _ (nx bf : ℕ → Option ℕ) (lk : ℕ → Bool) where
     | inr t ↦ inr (before-listed (Some n) (nx n) ns l.4 m k i e (λ f. t.1 (some_inj f)))
   ]
 
-  -- a number that is not linked is none of a chain's
+  -- a number that is not linked is in no chain
   pub not-listed : (n : ℕ) → lk n ≡ false → (p h : Option ℕ) (ns : List ℕ)
       → Leads nx bf lk p h ns → (m : ℕ) → IsOneOf ns m → n ≡ m → ⊥
   not-listed n free p h ns l m i e =
@@ -97,11 +97,11 @@ module _ (nx bf : ℕ → Option ℕ) (lk : ℕ → Bool) where
       ap (λ x. x ∷ ns) e ∙ ap (λ xs. m ∷ xs) (same-list (Some n) (nx n) ns ms l.4 rest)
 
 module _ (nx bf : ℕ → Option ℕ) (lk : ℕ → Bool) (nx' bf' : ℕ → Option ℕ) (lk' : ℕ → Bool) where
-  -- a number's links are what they were
+  -- the links of a number are unchanged
   abbrev pub Agrees : ℕ → Type 0
   Agrees m = (nx' m ≡ nx m) × (bf' m ≡ bf m) × (lk' m ≡ lk m)
 
-  -- a chain stays if what its numbers lead to stays
+  -- a chain is unchanged if the links of its numbers are
   pub Leads-agree : (p h : Option ℕ) (ns : List ℕ) → ((m : ℕ) → IsOneOf ns m → Agrees m)
       → Leads nx bf lk p h ns → Leads nx' bf' lk' p h ns
   Leads-agree p h [] f l = l
@@ -115,7 +115,7 @@ module _ (nx bf : ℕ → Option ℕ) (lk : ℕ → Bool) (nx' bf' : ℕ → Opt
             (Leads-agree (Some n) (nx n) ns (λ m i. f m (inr i)) l.4),
       )
 
-  -- and also if only the number before its first one is another, and its first one knows it
+  -- also if only the number before its first one is another, and its first one leads back to that
   pub Leads-under : (p q h : Option ℕ) (ns : List ℕ)
       → ((m : ℕ) → IsOneOf ns m → (h ≡ Some m → ⊥) → Agrees m)
       → ((m : ℕ) → h ≡ Some m → (nx' m ≡ nx m) × (bf' m ≡ q) × (lk' m ≡ lk m))

@@ -1,4 +1,4 @@
--- How long a chain is: at most as long as there are rows.
+-- The length of a chain: at most the number of rows.
 use Rattle.std.proofs.Common.{◌≡◌, ◌≤◌, ◌+◌, ◌∙◌, ℕ, Bool, true, false, cond, not, nat_eq, List, []}
 use Rattle.std.proofs.Common.{◌∷◌, length, Option, Some, None, is_some, refl, sym, ap, subst, inl}
 use Rattle.std.proofs.Common.{inr, arith, true≢false}
@@ -11,12 +11,12 @@ use Rattle.pt_table.proofs.Lookups.{turned}
 use Rattle.pt_table.proofs.Links.{linked-there}
 use Rattle.pt_table.proofs.Chained.{all-linked, but-none, but-there}
 
--- no number comes twice
+-- no number occurs twice
 abbrev pub Once : List ℕ → Type 0
 Once [] = Unit {0}
 Once (n ∷ ns) = (IsOneOf ns n → ⊥) × Once ns
 
--- one number less is left at most
+-- taking a number out shortens a list by one at most
 but-length : (n : ℕ) (ns : List ℕ) → Once ns → length ns ≤ length (but_number ns n) + 1
 but-length n [] once = omega arith
 but-length n (m ∷ ms) once = go (but-length n ms once.1) (nat_eq n m) refl
@@ -65,7 +65,7 @@ module _ {T : Type 0} where
       ∙ has m (but-there r.number ns m i)) in
       omega (arith, shorter, rest)
 
-  -- a chain is at most as long as there are rows
+  -- the length of a chain is at most the number of rows
   pub chain-fits : (rows : List (ObjectRow T)) (head : Option ℕ) (ns : List ℕ)
       → IsChain rows head ns → length ns ≤ length rows
   chain-fits rows head ns l =

@@ -1,11 +1,11 @@
--- A number put first in a chain: what leads to what before, and then.
+-- A number that is put first in a chain: what leads to what, before and after.
 use Rattle.std.proofs.Common.{◌≡◌, ◌∙◌, ℕ, Bool, true, false, cond, nat_eq, List, ◌∷◌, Option, Some}
 use Rattle.std.proofs.Common.{None, refl, sym, ap, subst}
 use Rattle.pt_table.specs.Linked.{IsOneOf, AreApart, is_number, Leads}
 use Rattle.pt_table.proofs.Chained.{differs, same, other, own, head-listed, all-linked, not-listed}
 use Rattle.pt_table.proofs.Chained.{Agrees, Leads-agree, Leads-under}
 
--- the head of a chain is linked, whichever row is linked beside it
+-- the head of a chain is linked, whichever other row is linked
 pub head-linked : (nx bf : ℕ → Option ℕ) (lk : ℕ → Bool) (number : ℕ) (h : Option ℕ)
     (ns : List ℕ) → Leads nx bf lk None h ns → (n : ℕ) → h ≡ Some n
     → cond (nat_eq number n) true (lk n) ≡ true
@@ -65,7 +65,7 @@ module _ (nx bf : ℕ → Option ℕ) (lk : ℕ → Bool) (nx' bf' : ℕ → Opt
       not-head : h ≡ Some number → ⊥
       not-head e = out number (head-listed nx bf lk None h ns l number e) refl
 
-  -- a chain apart from that one stays
+  -- a chain that has no number in common with that one is unchanged
   pub keeps-first : (ns : List ℕ) → Leads nx bf lk None h ns → (o : Option ℕ) (os : List ℕ)
       → Leads nx bf lk None o os → AreApart ns os → Leads nx' bf' lk' None o os
   keeps-first ns l o os m apart =

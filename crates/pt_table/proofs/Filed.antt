@@ -1,4 +1,4 @@
--- Cells that are written: which names still have theirs.
+-- Cells that are written: the names that are still filed.
 use Rattle.std.proofs.Common.{◌≡◌, ◌≢◌, ◌<◌, ◌∙◌, ℕ, true, false, List, Option, Some, None, length}
 use Rattle.std.proofs.Common.{ap, sym, inl, inr, get_or-set_same, get_or-set_other}
 use Rattle.std.proofs.Math.ListN.{set}
@@ -13,7 +13,7 @@ no_slot : (o : Option ℕ) (s : ℕ) → is_some o ≡ false → o ≡ Some s �
 no_slot None s none some = cc
 no_slot (Some r) s none some = cc
 
--- a name is filed still as a cell that has no slot is given one
+-- a name is still filed after a cell that has no slot is given one
 pub filed_first :
     (cells : Cells) (p : ℕ) (v : Option ℕ) → p < length cells.firsts
     → (others : List (List ℕ × ℕ)) (t : List ℕ) (s : ℕ)
@@ -29,7 +29,7 @@ filed_first cells p v within others t s free (inl f) =
       | inr apart ↦ inl (get_or-set_other cells.firsts p (place_of t) v None apart.1 ∙ f)
     ]
 
--- a name is filed still as the cell that has another's slot is cleared
+-- a name is still filed after a cell with another slot is cleared
 pub filed_cleared :
     (cells : Cells) (p slot first : ℕ) → slice_index_or cells.firsts p None ≡ Some first
     → first ≡ slot → (others : List (List ℕ × ℕ)) (t : List ℕ) (s : ℕ) → s ≢ slot
@@ -45,7 +45,7 @@ filed_cleared cells p slot first here same others t s apart (inl f) =
       | inr off ↦ inl (get_or-set_other cells.firsts p (place_of t) None None off.1 ∙ f)
     ]
 
--- a name is filed still as its cell is marked as shared
+-- a name is still filed after a cell is marked as shared
 pub filed_shared :
     (cells : Cells) (p : ℕ) → p < length cells.shared
     → (others left : List (List ℕ × ℕ)) (t : List ℕ) (s : ℕ)

@@ -1,4 +1,4 @@
--- Gathered: the numbers of a chain, read one by one from its head on.
+-- Gathered: the numbers of a chain, read one by one from its head.
 use Rattle.std.proofs.Common.{◌≡◌, ◌∙◌, ◌<◌, ◌≤◌, ◌+◌, ℕ, suc, List, [], ◌∷◌, ◌++◌, length, take}
 use Rattle.std.proofs.Common.{Option, Some, None, sym, ap, subst, arith}
 use Rattle.std.proofs.Math.ListN.{set}
@@ -16,7 +16,7 @@ one-written i ns n within =
     ap (λ k. take k (set ns i n)) e ∙ take-suc-set ns i n within
 
 module _ {T : Type 0} (rows : List (ObjectRow T)) (head : Option ℕ) where
-  -- these numbers of the chain of a head are read, and it goes on here
+  -- these numbers of a head's chain were read, and the rest of it begins here
   pub record IsGathered (rest : Option ℕ) (done : List ℕ) : Type 0 where
     pub left : List ℕ
     pub whole : IsChain rows head (done ++ left)
@@ -30,7 +30,7 @@ module _ {T : Type 0} (rows : List (ObjectRow T)) (head : Option ℕ) where
       (record { left = ns; whole = l; from = None; leads = l })
 
   module _ (rest : Option ℕ) (done : List ℕ) (d : IsGathered rest done) where
-    -- there is room for a number while there is one
+    -- as long as a number is left, there is room for it
     pub has-room : (most : ℕ) → ((ns : List ℕ) → IsChain rows head ns → length ns ≤ most)
         → (first : ℕ) → rest ≡ Some first → length done < most
     has-room most within first e =

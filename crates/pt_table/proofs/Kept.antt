@@ -1,4 +1,4 @@
--- What stands of a table with no row, and of one whose rows and numbers are as they were.
+-- What is true of a table with no row, and of one whose rows and numbers are unchanged.
 use Rattle.std.proofs.Common.{◌≡◌, ℕ, ◌+◌, ◌-◌, ◌<◌, ◌≤◌, false, List, [], Option, Some, None}
 use Rattle.std.proofs.Common.{is_some, sym, subst, inl, inr, ◌∙◌}
 use Rattle.std.proofs.Common.{Bool, true, cond, ◌||◌, refl, arith}

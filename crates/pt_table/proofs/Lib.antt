@@ -4,7 +4,7 @@ mod Lookups
 mod Listed
 -- Added: adding a row: a new row in a vacant slot is the last one that is listed
 mod Added
--- Written: changing a row in its slot, where the row keeps its number
+-- Written: changing a row in its slot, if the row keeps its number
 mod Written
 -- Removed: taking a row out: its slot is empty, and its number is no longer listed
 mod Removed
@@ -16,9 +16,9 @@ mod Vacated
 mod Refused
 -- Places: the index of a name's cell is within the cells
 mod Places
--- Filed: cells that are written: which names still have theirs
+-- Filed: cells that are written: the names that are still filed
 mod Filed
--- Links: what a written link leaves of the rows, and of what each leads to
+-- Links: what writing a link changes in the rows, and in what each leads to
 mod Links
 -- Chained: what the numbers of a chain lead to, as one is put in or taken out
 mod Chained
@@ -26,25 +26,26 @@ mod Chained
 mod Struck
 -- Rising: entries whose numbers rise, and where one of them is
 mod Rising
--- Entered: a number put first in a chain
+-- Entered: a number that is put first in a chain: what leads to what, before and after
 mod Entered
--- Taken: a number taken out of a chain
+-- Taken: a number that is taken out of a chain: what leads to what, before and after
 mod Taken
--- Counted: how long a chain is
+-- Counted: the length of a chain: at most the number of rows
 mod Counted
--- Members: the numbers of a list, of two lists, and of one in another order
+-- Members: the numbers of a list, of two lists, of a list in another order, and of one that rises
 mod Members
 -- Walked: a chain that is followed some steps from its head
 mod Walked
--- Gathered: the numbers of a chain, read one by one from its head on
+-- Gathered: the numbers of a chain, read one by one from its head
 mod Gathered
 -- Relinked: rows that are linked anew in the order of their numbers, the last one first
 mod Relinked
 -- Sorted: a chain whose numbers are gathered, sorted, and linked anew
 mod Sorted
--- ChainCallers: for callers: chains and rows as rows are linked, written, added or taken out
+-- ChainCallers: for callers: what changes in chains and rows as rows are linked, written, added or
+-- taken out
 pub mod ChainCallers
--- Kept: what stands of a table with no row, and of one whose rows and numbers are as they were
+-- Kept: what is true of a table with no row, and of one whose rows and numbers are unchanged
 mod Kept
 -- Nth: the row at an index of the list, in the slot that is listed there
 mod Nth

@@ -1,4 +1,4 @@
--- Links of rows: what a written link leaves of the rows, and of what each leads to.
+-- Links: what writing a link changes in the rows, and in what each leads to.
 use Rattle.std.proofs.Common.{◌≡◌, ◌∙◌, ℕ, Bool, true, false, cond, nat_eq, List, [], ◌∷◌, Option}
 use Rattle.std.proofs.Common.{Some, None, is_some, refl, sym, ap, arith}
 use Rattle.std.specs.Option.{option_map, option_and_then}
@@ -49,7 +49,7 @@ module _ {T : Type 0} where
       go ih true = refl
       go ih false = ih
 
-  -- the link is in the row of the number, and the other rows have theirs
+  -- the link is in the row of the number, and the other rows keep theirs
   pub link-written : (rows : List (ObjectRow T)) (n : ℕ) (link : Link) → has_object rows n ≡ true
       → (m : ℕ) → link_of (with_link rows n link) m
       ≡ cond (nat_eq n m) (Some link) (link_of rows m)
@@ -118,7 +118,7 @@ module _ {T : Type 0} where
       go None = refl
       go (Some r) = refl
 
-  -- and the rows are what they were, but for links
+  -- and the rows are unchanged, except for links
   pub unlinked-written : (rows : List (ObjectRow T)) (n : ℕ) (link : Link)
       → unlinked (with_link rows n link) ≡ unlinked rows
   unlinked-written [] n link = refl
@@ -131,7 +131,7 @@ module _ {T : Type 0} where
       go true = refl
       go false = refl
 
-  -- what is linked has a row, and so does what leads on
+  -- a number that is linked has a row
   pub linked-there : (rows : List (ObjectRow T)) (n : ℕ) → is_linked rows n ≡ true
       → has_object rows n ≡ true
   linked-there rows n e = go (object_at rows n) e
@@ -141,7 +141,7 @@ module _ {T : Type 0} where
       go None e = cc
       go (Some r) e = refl
 
-  -- what is linked has a link
+  -- a number that is linked has a link
   pub linked-link : (rows : List (ObjectRow T)) (n : ℕ) → is_linked rows n ≡ true
       → (link : Link) × (link_of rows n ≡ Some link)
   linked-link rows n e = go (link_of rows n) refl e
@@ -151,7 +151,7 @@ module _ {T : Type 0} where
       go None found e = cc
       go (Some link) found e = (link, found)
 
-  -- the link that is found says what the number leads to
+  -- the link of a number shows what the number leads to
   pub next-found : (rows : List (ObjectRow T)) (n : ℕ) (link : Link) → link_of rows n ≡ Some link
       → link.next ≡ next_number rows n
   next-found rows n link e = sym (ap (option_and_then (λ (l : Link). l.next)) e)
@@ -180,7 +180,7 @@ module _ {T : Type 0} where
     pub unlinked-once : unlinked one ≡ unlinked rows
     unlinked-once = ap unlinked to_one ∙ unlinked-written rows n link
 
--- what is written at a number as it was leaves all as it was
+-- writing at a number what was there changes nothing
 pub written-same : {X : Type 0} (f : ℕ → X) (n : ℕ) (x : X) → x ≡ f n → (k : ℕ)
     → cond (nat_eq n k) x (f k) ≡ f k
 written-same f n x e k = go (nat_eq n k) refl

@@ -109,7 +109,7 @@ module _ {R : Type 0} {number : R → ℕ} {slots : List (Option R)} {numbers : 
     row_at-numbers n =
         ap (λ rs. row_at number rs n) (sym view) ∙ row_at-listed number slots numbers n h.listed
 
-    -- from what the numbers give at a number to the row
+    -- the row of a number, from the slot that the numbers give
     pub found_at : (n : ℕ) (slot : Option ℕ) (o : Option R) → slot ≡ lookup (nat_eq n) numbers
         → o ≡ option_and_then (row_in_slot slots) slot → o ≡ row_at number rows n
     found_at n slot o found row =
@@ -176,7 +176,7 @@ module _ {R : Type 0} {number : R → ℕ} {slots : List (Option R)} {numbers : 
     hinted_row n None right = tt
     hinted_row n (Some slot) right = sym (slot_if_row n) ∙ ap is_some right
 
-    -- the row in a slot is the one of its number
+    -- the row in a slot is the row of its number
     pub row_of_any : (slot : Option ℕ) (row : R) → Some row ≡ row_in_any slots slot
         → row_at number rows (number row) ≡ Some row
     row_of_any None row e = absurd (none_some (sym e))

@@ -1,4 +1,4 @@
--- The numbers of a list: of two lists, of a list in another order, and of one that rises.
+-- The numbers of a list, of two lists, of a list in another order, and of one that rises.
 use Rattle.std.proofs.Common.{◌≡◌, ◌≤◌, ◌<◌, ◌⊎◌, ℕ, suc, Bool, true, false, nat_eq, cond, not}
 use Rattle.std.proofs.Common.{List, [], ◌∷◌, ◌++◌, length, refl, sym, subst, inl, inr, arith}
 use Rattle.std.specs.List.{AllByRecursion as Each, IsDistinct}
@@ -51,7 +51,7 @@ pick P [] all n i = absurd i
 pick P (x ∷ xs) all n (inl e) = subst P (sym e) all.0
 pick P (x ∷ xs) all n (inr i) = pick P xs all.1 n i
 
--- another order has the same numbers
+-- a list in another order has the same numbers
 pub members : (xs ys : List ℕ) → IsPermutation xs ys → (n : ℕ) → IsOneOf ys n → IsOneOf xs n
 members xs ys moved n i =
     pick (IsOneOf xs) ys
@@ -97,7 +97,7 @@ less-than-last (x ∷ xs) ys m n rise (inl e) =
     (pick (λ k. x < k) (xs ++ m ∷ ys) rise.0 m (in-right xs (m ∷ ys) m (inl refl)))
 less-than-last (x ∷ xs) ys m n rise (inr i) = less-than-last xs ys m n rise.1 i
 
--- a rising list still rises without a number of it
+-- a rising list still rises after one of its numbers is taken out
 pub rising-but : (m : ℕ) (ns : List ℕ) → IsRising ns → IsRising (but_number ns m)
 rising-but m [] rise = tt
 rising-but m (n ∷ ns) rise = go (rising-but m ns rise.1) (nat_eq m n)

@@ -20,7 +20,7 @@ use Rattle.pt_table.proofs.Listed.{first_row}
 use Rattle.pt_table.proofs.Written.{same_in}
 use Rattle.pt_table.proofs.Removed.{kept, other_slot}
 
--- a name is the same as itself alone
+-- a name is the same as itself and no other
 same-true : (t u : List ℕ) → t ≡ u → same_name t u ≡ true
 same-true t u e = (bytes_eq-Decides t u).1 e
 
@@ -37,7 +37,7 @@ or_right false true e = cc
 or_right true true e = cc
 
 module _ {T : Type 0} where
-  -- what stands in the slot of a name
+  -- the row in the slot of a name
   row_of_name : (o : Option (ObjectRow T)) (t : List ℕ) → option_map (λ row. row.name) o ≡ Some t
       → (row : ObjectRow T) × (o ≡ Some row) × (row.name ≡ t)
   row_of_name None t e = cc
@@ -47,7 +47,7 @@ module _ {T : Type 0} (slots : List (Option (ObjectRow T))) where
   abbrev All : List (ℕ × ℕ) → Type 0
   All es = Listed (λ row. row.number) slots es
 
-  -- where one slot alone has the name, and a number has this slot, its row is found
+  -- if only one slot has the name, and a number has this slot, the row there is found
   name_found : (es : List (ℕ × ℕ)) (t : List ℕ) (s n : ℕ) (row : ObjectRow T) → All es
       → row_in_slot slots s ≡ Some row → row.name ≡ t
       → ((k : ℕ) → name_in slots k ≡ Some t → k ≡ s) → lookup (nat_eq n) es ≡ Some s
@@ -91,7 +91,7 @@ module _ {T : Type 0} (slots : List (Option (ObjectRow T))) where
           absurd (none e.1 (ap (option_map (λ row. row.name)) at_slot ∙ ap Some named))
       by ih false first eq at_slot = ih
 
--- of a table, with its rows
+-- for a table and its rows
 module _ {T : Type 0} {slots : List (Option (ObjectRow T))} {numbers : List (ℕ × ℕ)}
     {cells : Cells} {others : List (List ℕ × ℕ)} {most : ℕ}
     (h : IsNumbered (λ row. row.number) slots numbers most) (k : IsNamed slots cells others)
@@ -106,7 +106,7 @@ module _ {T : Type 0} {slots : List (Option (ObjectRow T))} {numbers : List (ℕ
       sym (name_found slots numbers t s row.number row h.listed here name only at)
       ∙ ap (λ rs. object_named rs t) view
 
-  -- with no row of a name there is none in the table
+  -- if no slot has the name, the table has no row with it
   pub row_missing : (t : List ℕ) → ((s : ℕ) → name_in slots s ≢ Some t)
       → None ≡ object_named rows t
   row_missing t none =
@@ -118,7 +118,7 @@ module _ {T : Type 0} {slots : List (Option (ObjectRow T))} {numbers : List (ℕ
       let r = row_of_name (row_in_slot slots s) t there in
       none_some (sym free ∙ sym (row_found t r.0 s r.1 r.2))
 
--- from the slots in which a name is looked for to its row
+-- the row of a name, from the slots in which the name is looked up
 pub row_after : {T : Type 0} {slots : List (Option (ObjectRow T))} {cells : Cells}
     {others : List (List ℕ × ℕ)} → IsNamed slots cells others → (t : List ℕ) (first : Option ℕ)
     → ((s : ℕ) → IsFirst cells t s → first ≡ Some s)
@@ -247,7 +247,7 @@ module _ {T : Type 0} {slots : List (Option (ObjectRow T))} {numbers : List (ℕ
         filed = filed_left;
       }
 
--- the same of the rows that `take_out` leaves
+-- the same for the rows that `take_out` leaves
 pub named_removed : {T : Type 0} {slots : List (Option (ObjectRow T))} {numbers : List (ℕ × ℕ)}
     {cells : Cells} {others : List (List ℕ × ℕ)} {most : ℕ}
     → IsNumbered (λ r. r.number) slots numbers most → IsNamed slots cells others
@@ -261,7 +261,7 @@ pub named_removed : {T : Type 0} {slots : List (Option (ObjectRow T))} {numbers 
 named_removed h k n new row taken cells' others' still =
     rw taken.3 (IsNamed-removed cells' others' row n taken.0 h k taken.1 taken.2 still)
 
--- the same of a new row, for a table that first made room
+-- the same for a new row, in a table that first made room
 pub named_added : {T : Type 0} {slots : List (Option (ObjectRow T))} {numbers : List (ℕ × ℕ)}
     {cells : Cells} {others : List (List ℕ × ℕ)} {most : ℕ}
     → IsNumbered (λ r. r.number) slots numbers most → IsNamed slots cells others
@@ -284,7 +284,7 @@ named_added h k rows view roomy roomy_cells roomy_others same same_cells same_ot
     rw same (name_free h k rows view row.name free) in
     IsNamed-added new row key cells' others' as_named here others no_slot filed still
 
--- what isn't taken has no row, neither by its number nor by its name
+-- a number and a name that are not taken have no row
 pub number_free : {T : Type 0} (rows : List (ObjectRow T)) (n : ℕ) (t : List ℕ)
     → is_taken rows n t ≡ false → object_at rows n ≡ None
 number_free rows n t e =

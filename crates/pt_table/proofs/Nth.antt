@@ -23,7 +23,7 @@ listed-within (y ∷ xs) (suc i) x at = let less = listed-within xs i x at in om
 pub steps-down : (m n : ℕ) → n ≡ m - 1 → m ≢ 0 → suc n ≡ m
 steps-down m n e some = omega arith
 
--- an entry is passed on the way to one of those that are left
+-- after an entry that is left is passed, the index of each later one is lower by one
 pub passed-left : (i s b : ℕ) (es : List (ℕ × Option ℕ)) → i < length es
     → (get_or es i (0, None)).1 ≡ Some s
     → slice_get (left_of (drop (suc i) es)) b ≡ slice_get (left_of (drop i es)) (suc b)

@@ -10,19 +10,19 @@ use Rattle.pt_table.proofs.Chained.{differs, same}
 use Rattle.pt_table.proofs.ChainCallers.{same-has}
 use Rattle.pt_table.proofs.Members.{in-right, pick}
 
--- the number that is put last is the last
+-- the number that is put at the end is the last
 pub last-put : (ns : List ℕ) (n : ℕ) → last_number (ns ++ n ∷ []) ≡ Some n
 last-put [] n = refl
 last-put (m ∷ []) n = refl
 last-put (m ∷ k ∷ ks) n = last-put (k ∷ ks) n
 
--- the last of rising numbers rise
+-- the last part of a rising list rises
 rising-right : (xs ys : List ℕ) → IsRising (xs ++ ys) → IsRising ys
 rising-right [] ys r = r
 rising-right (x ∷ xs) ys r = rising-right xs ys r.1
 
 module _ (nx nx2 bf bf2 : ℕ → Option ℕ) (lk lk2 : ℕ → Bool) where
-  -- what leads on as before is a chain as before
+  -- numbers with the same links form the same chain
   pub same-leads : (p h : Option ℕ) (ns : List ℕ)
       → ((m : ℕ) → IsOneOf ns m → nx2 m ≡ nx m) → ((m : ℕ) → IsOneOf ns m → bf2 m ≡ bf m)
       → ((m : ℕ) → IsOneOf ns m → lk2 m ≡ lk m) → Leads nx bf lk p h ns → Leads nx2 bf2 lk2 p h ns
@@ -81,7 +81,7 @@ module _ {T : Type 0} (old now : List (ObjectRow T)) (all left : List ℕ) (head
         → number_before new n ≡ cond (nat_eq number n) (last_number rest) (number_before now n))
         (linked : (n : ℕ) → is_linked new n ≡ cond (nat_eq number n) true (is_linked now n))
         (rows : unlinked new ≡ unlinked now) where
-      -- the number is none of those that come after it
+      -- the number differs from those that come after it
       apart : (n : ℕ) → IsOneOf d.done n → number ≡ n → ⊥
       apart n i e =
           let up = rising-right rest (number ∷ d.done) (subst IsRising seam rise) in

@@ -31,7 +31,7 @@ module _ {R : Type 0} {number : R → ℕ} {slots : List (Option R)} {numbers : 
   pub kept : (k : ℕ) → k ≢ slot → row_in_slot left k ≡ row_in_slot slots k
   kept k apart = get_or-set_other slots slot k None None apart
 
-  -- a slot that still has a row is another
+  -- a slot that still has a row is not the one that was emptied
   pub other_slot : {X : Type 0} (part : R → X) (k : ℕ) (x : X)
       → option_map part (row_in_slot left k) ≡ Some x → k ≢ slot
   other_slot part k x e same =
@@ -54,7 +54,7 @@ module _ {R : Type 0} {number : R → ℕ} {slots : List (Option R)} {numbers : 
         listed_without es all.1 parts.1,
       )
 
-  -- where an entry has the number, the entries after it don't
+  -- if an entry has the number, the entries after it do not
   none_after : (e : ℕ × ℕ) (es : List (ℕ × ℕ)) → Distinct (e ∷ es) → nat_eq n e.0 ≡ true
       → lookup (nat_eq n) es ≡ None
   none_after e es once eq = ap (λ m. lookup (nat_eq m) es) (eqb-true n e.0 eq) ∙ once.0
@@ -92,7 +92,7 @@ module _ {R : Type 0} {number : R → ℕ} {slots : List (Option R)} {numbers : 
     within = omega (arith, length-remove (nat_eq n) numbers, h.within);
   }
 
-  -- a row is in the list without a number where its own is another
+  -- a row stays in the list without a number if its own number is another
   step : (r : R) (es : List (ℕ × ℕ)) (b : Bool) → nat_eq n (number r) ≡ b
       → without number (r ∷ rows_listed slots es) n
       ≡ cond (not b) (r ∷ without number (rows_listed slots es) n)
@@ -138,7 +138,7 @@ module _ {R : Type 0} {number : R → ℕ} {slots : List (Option R)} {numbers : 
       ≡ without number (rows_listed slots numbers) n
   rows_listed-removed = rows_left numbers h.listed h.distinct
 
--- where no row has the number, none is taken out
+-- if no row has the number, none is taken out
 pub without_absent : {R : Type 0} (number : R → ℕ) (rows : List R) (n : ℕ)
     → row_at number rows n ≡ None → without number rows n ≡ rows
 without_absent number [] n h = refl
@@ -156,14 +156,14 @@ module _ {R : Type 0} {number : R → ℕ} {slots : List (Option R)} {numbers : 
     {most : ℕ} (h : IsNumbered number slots numbers most)
     (rows : List R) (view : rows_listed slots numbers ≡ rows) (n : ℕ)
     (new : List (Option R)) (new_numbers : List (ℕ × ℕ)) where
-  -- where there was no such row
+  -- if there was no such row
   pub view_absent : lookup (nat_eq n) numbers ≡ None → new ≡ slots → new_numbers ≡ numbers
       → rows_listed new new_numbers ≡ without number rows n
   view_absent none same same_numbers =
       ap (λ s. rows_listed s new_numbers) same ∙ ap (rows_listed slots) same_numbers ∙ view
       ∙ sym (without_absent number rows n (row_absent h rows view n none))
 
-  -- where there was
+  -- if there was one
   module _ (row : R) (taken : (slot : ℕ) × (lookup (nat_eq n) numbers ≡ Some slot)
       × (row_in_slot slots slot ≡ Some row) × (new ≡ set slots slot None))
       (shorter : new_numbers ≡ remove_entry (nat_eq n) numbers) where

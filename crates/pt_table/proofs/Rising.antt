@@ -30,7 +30,7 @@ strictly (e ∷ es) rise zero (suc j) d before within =
 strictly (e ∷ es) rise (suc i) (suc j) d before within =
     strictly es rise.1 i j d (omega (arith, before)) (omega (arith, within))
 
--- so they do not fall
+-- so no number is less than an earlier one
 pub ordered : (es : List (ℕ × Option ℕ)) → Rises es → (i j : ℕ) (d : ℕ × Option ℕ) → i ≤ j
     → j < length es → (get_or es i d).0 ≤ (get_or es j d).0
 ordered es rise i j d before within = elim (cases_lt i j) [
@@ -41,7 +41,7 @@ ordered es rise i j d before within = elim (cases_lt i j) [
       omega (arith, equal)
 ]
 
--- a number that no entry has
+-- a number is not listed if each entry that has it is struck out
 none-left : (n : ℕ) (es : List (ℕ × Option ℕ))
     → ((k s : ℕ) → slice_get es k ≡ Some (n, Some s) → ⊥) → lookup (nat_eq n) (left_of es) ≡ None
 none-left n [] never = refl
@@ -51,7 +51,7 @@ none-left n ((m, Some t) ∷ es) never =
     (differs n m (λ same. never zero t (ap (λ x. Some (x, Some t)) (sym same))))
     ∙ none-left n es (λ k s at. never (suc k) s at)
 
--- a number that is not where it would be among numbers that rise
+-- a number is not listed if it is not at its place among rising numbers
 pub absent-at : (n i : ℕ) (es : List (ℕ × Option ℕ)) → Rises es
     → IsPartitionPoint (λ (e : ℕ × Option ℕ). ltb e.0 n ≡ true)
     (λ (e : ℕ × Option ℕ). ltb e.0 n ≡ false) es i
@@ -85,7 +85,7 @@ below-added : (m : ℕ) (es : List (ℕ × Option ℕ)) → IsBelowAll es m → 
 below-added m [] below n o less = (less, tt)
 below-added m (e ∷ es) below n o less = (below.0, below-added m es below.1 n o less)
 
--- numbers rise with one after them that is above the last
+-- rising numbers still rise with a greater one added after the last
 rises-after : (es : List (ℕ × Option ℕ)) → Rises es → (n : ℕ) (o : Option ℕ)
     → ((e : ℕ × Option ℕ) → slice_get es (length es - 1) ≡ Some e → e.0 < n)
     → Rises (es ++ (n, o) ∷ [])
@@ -135,7 +135,7 @@ rises-added true xs es new n s same longer rise =
     subst Rises (ap (λ ys. ys ++ (n, Some s) ∷ []) same ∙ sym longer) (rise (Some s))
 rises-added false xs es new n s same longer rise = tt
 
--- what is kept where numbers rise
+-- if a fact holds whenever the numbers rise, so does what follows from it
 pub on-kept : (b : Bool) {P Q : Type 0} → (P → Q) → OnTrue b P → OnTrue b Q
 on-kept true kept p = kept p
 on-kept false kept p = tt
@@ -147,7 +147,7 @@ below-struck m n s zero (e ∷ es) at below =
     (subst (λ (x : ℕ × Option ℕ). m < x.0) (some_inj at) below.0, below.1)
 below-struck m n s (suc i) (e ∷ es) at below = (below.0, below-struck m n s i es at below.1)
 
--- the numbers rise once one of them is struck out
+-- the numbers still rise after one of them is struck out
 pub rises-struck : (n s i : ℕ) (es : List (ℕ × Option ℕ)) → slice_get es i ≡ Some (n, Some s)
     → Rises es → Rises (set es i (n, None))
 rises-struck n s i [] at rise = absurd (none_some at)
@@ -162,7 +162,7 @@ below-packed m [] below = tt
 below-packed m ((n, None) ∷ es) below = below-packed m es below.1
 below-packed m ((n, Some s) ∷ es) below = (below.0, below-packed m es below.1)
 
--- and once those that are struck out are taken from them
+-- and after those that are struck out are removed
 pub rises-packed : (es : List (ℕ × Option ℕ)) → Rises es → Rises (filter (λ e. is_some e.1) es)
 rises-packed [] rise = tt
 rises-packed ((n, None) ∷ es) rise = rises-packed es rise.1

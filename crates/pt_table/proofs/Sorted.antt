@@ -13,7 +13,7 @@ use Rattle.pt_table.proofs.Counted.{once-chain, chain-fits}
 use Rattle.pt_table.proofs.Relinked.{same-leads}
 use Rattle.pt_table.proofs.Members.{in-or-out, members, sorted-rises}
 
--- the front of a list up to an index, and what is there, are the front past it
+-- the first i numbers of a list are the first i - 1 and the one after them
 pub one-more : (i : ℕ) (ns : List ℕ) → 0 < i → i ≤ length ns
     → take i ns ≡ take (i - 1) ns ++ slice_index_or ns (i - 1) 0 ∷ []
 one-more i ns some within =
@@ -27,7 +27,7 @@ whole-front (n ∷ ns) = ap (λ ms. n ∷ ms) (whole-front ns)
 pub no-front : (i : ℕ) (ns : List ℕ) → i ≡ 0 → take i ns ≡ []
 no-front i ns e = ap (λ k. take k ns) e
 
--- at most one number rises
+-- a list of at most one number rises
 short-rises : (ns : List ℕ) → length ns ≤ 1 → IsRising ns
 short-rises [] e = tt
 short-rises (n ∷ []) e = (tt, tt)
@@ -63,7 +63,7 @@ module _ {T : Type 0} where
           ),
         )
 
-    -- what was linked is linked again, and nothing else
+    -- the same numbers are linked as before
     pub linked-again : (new : List (ObjectRow T)) (after : Option ℕ) → IsChain new after ms
         → ((n : ℕ) → (IsOneOf ms n → ⊥) → is_linked new n ≡ is_linked old n)
         → (n : ℕ) → is_linked new n ≡ is_linked old n
@@ -76,7 +76,7 @@ module _ {T : Type 0} where
       | inr o ↦ back n (λ i. o (was-there n i))
     ]
 
-    -- chains that have no number in common with these stay
+    -- chains that have no number in common with these are unchanged
     pub others-kept : (new : List (ObjectRow T))
         → ((n : ℕ) → (IsOneOf ms n → ⊥) → next_number new n ≡ next_number old n)
         → ((n : ℕ) → (IsOneOf ms n → ⊥) → number_before new n ≡ number_before old n)

@@ -14,13 +14,13 @@ use Rattle.pt_table.specs.Slots.{left_of, with_slot, Distinct, IsLeftAt}
 use Rattle.pt_table.proofs.Lookups.{some_inj, none_some}
 use Rattle.pt_table.proofs.Chained.{differs}
 
--- those that are left are not more than all
+-- no more entries are left than there are
 few-left : (es : List (ℕ × Option ℕ)) → length (left_of es) ≤ length es
 few-left [] = omega arith
 few-left ((n, None) ∷ es) = omega (arith, few-left es)
 few-left ((n, Some s) ∷ es) = omega (arith, few-left es)
 
--- if as many are left as there are, each is
+-- if as many entries are left as there are, none is struck out
 pub all-left : (es : List (ℕ × Option ℕ)) → length es ≡ length (left_of es) → (i : ℕ)
     → slice_get (left_of es) i ≡ option_and_then with_slot (slice_get es i)
 all-left [] e i = refl
@@ -28,7 +28,7 @@ all-left ((n, None) ∷ es) e i = absurd (omega (arith, e, few-left es))
 all-left ((n, Some s) ∷ es) e zero = refl
 all-left ((n, Some s) ∷ es) e (suc i) = all-left es (omega (arith, e)) i
 
--- what is left from an index on
+-- the entries that are left from an index on
 pub left-from : (i : ℕ) (es : List (ℕ × Option ℕ)) (e : ℕ × Option ℕ) → slice_get es i ≡ Some e
     → left_of (drop i es) ≡ cons_option (with_slot e) (left_of (drop (suc i) es))
 left-from i [] e at = absurd (none_some at)
@@ -42,7 +42,7 @@ none-from (suc i) [] past = refl
 none-from zero (e ∷ es) past = absurd (omega (arith, past))
 none-from (suc i) (e ∷ es) past = none-from i es (omega (arith, past))
 
--- one that is not struck out is listed
+-- an entry that is not struck out is listed
 listed-left : (n s i : ℕ) (es : List (ℕ × Option ℕ)) → slice_get es i ≡ Some (n, Some s)
     → IsSome (lookup (nat_eq n) (left_of es))
 listed-left n s i [] at = absurd (none_some at)
@@ -58,14 +58,14 @@ listed-left n s (suc i) ((m, Some t) ∷ es) at = by (nat_eq n m) (listed-left n
     by true l = refl
     by false l = l
 
--- a number that is listed after another one is not the other
+-- a number with an entry that is not struck out differs from one that is not listed
 other-first : (n s i m : ℕ) (es : List (ℕ × Option ℕ)) → lookup (nat_eq m) (left_of es) ≡ None
     → slice_get es i ≡ Some (n, Some s) → nat_eq n m ≡ false
 other-first n s i m es once at =
     differs n m (λ same. true≢false (sym (listed-left n s i es at)
     ∙ ap is_some (ap (λ k. lookup (nat_eq k) (left_of es)) same ∙ once)))
 
--- one that is not struck out has its slot
+-- an entry that is not struck out is found with its slot
 pub found-left : (n s i : ℕ) (es : List (ℕ × Option ℕ)) → Distinct (left_of es)
     → slice_get es i ≡ Some (n, Some s) → lookup (nat_eq n) (left_of es) ≡ Some s
 found-left n s i [] once at = absurd (none_some at)
@@ -77,12 +77,12 @@ found-left n s (suc i) ((m, Some t) ∷ es) once at =
     ap (λ b. cond b (Some t) (lookup (nat_eq n) (left_of es))) (other-first n s i m es once.0 at)
     ∙ found-left n s i es once.1 at
 
--- and is what is read there
+-- and is the entry that is read there
 pub read-left : (n i : ℕ) (es : List (ℕ × Option ℕ)) (l : IsLeftAt es n i)
     → get_or es i (0, None) ≡ (n, Some l.0)
 read-left n i es l = get_or_from_slice_get es i (n, Some l.0) (0, None) l.1
 
--- the others are left once a number is struck out
+-- the others are left after a number is struck out
 pub left-struck : (n s i : ℕ) (es : List (ℕ × Option ℕ)) → Distinct (left_of es)
     → slice_get es i ≡ Some (n, Some s)
     → left_of (set es i (n, None)) ≡ remove_entry (nat_eq n) (left_of es)
@@ -97,7 +97,7 @@ left-struck n s (suc i) ((m, Some t) ∷ es) once at =
     ∙ sym (ap (λ b. cond b (left_of es) ((m, t) ∷ remove_entry (nat_eq n) (left_of es)))
     (other-first n s i m es once.0 at))
 
--- one is left less
+-- one fewer entry is left
 pub one-less : (n : ℕ) (es : List (ℕ × ℕ)) → IsSome (lookup (nat_eq n) es)
     → length es ≡ length (remove_entry (nat_eq n) es) + 1
 one-less n [] listed = absurd (true≢false (sym listed))
@@ -116,7 +116,7 @@ left-added [] n s = refl
 left-added ((m, None) ∷ es) n s = left-added es n s
 left-added ((m, Some t) ∷ es) n s = ap (λ xs. (m, t) ∷ xs) (left-added es n s)
 
--- what is left of those that are left
+-- removing the entries that are struck out does not change those that are left
 pub left-packed : (es : List (ℕ × Option ℕ)) → left_of (filter (λ e. is_some e.1) es) ≡ left_of es
 left-packed [] = refl
 left-packed ((m, None) ∷ es) = left-packed es
@@ -143,7 +143,7 @@ left-at n i es (m, Some s) at is =
     yes true e = refl
     yes false e = e
 
--- past an entry that is not the one of the number, the number is listed as before
+-- past an entry that is not that of the number, the number is found as before
 pub past-other : (n i : ℕ) (es : List (ℕ × Option ℕ)) (e : ℕ × Option ℕ) → slice_get es i ≡ Some e
     → ((e.0 == n) && is_some e.1) ≡ false
     → lookup (nat_eq n) (left_of (drop (i + 1) es)) ≡ lookup (nat_eq n) (left_of (drop i es))
@@ -161,7 +161,7 @@ past-other n i es e at other =
         sym (ap (lookup (nat_eq n)) (left-from i es (m, Some s) at)
         ∙ ap (λ b. cond b (Some s) (lookup (nat_eq n) (left_of (drop (suc i) es)))) apart)
 
--- by the outcome of the test
+-- the same, by the outcome of the test
 pub left-there : (n i : ℕ) (es : List (ℕ × Option ℕ)) (e : ℕ × Option ℕ)
     → slice_get es i ≡ Some e → (b : Bool) → b ≡ ((e.0 == n) && is_some e.1)
     → OnTrue b (IsLeftAt es n i)

@@ -1,4 +1,4 @@
--- A number taken out of a chain: what leads to what before, and then.
+-- A number that is taken out of a chain: what leads to what, before and after.
 use Rattle.std.proofs.Common.{◌≡◌, ◌∙◌, ℕ, Bool, false, cond, nat_eq, List, [], ◌∷◌, Option, Some}
 use Rattle.std.proofs.Common.{None, sym, ap, subst, inl, inr}
 use Rattle.pt_table.specs.Linked.{IsOneOf, AreApart, but_number, is_number, Leads}
@@ -125,7 +125,7 @@ module _ (nx bf : ℕ → Option ℕ) (lk : ℕ → Bool) (nx' bf' : ℕ → Opt
       → Leads nx' bf' lk' None (left_head h) (but_number ns number)
   take-from h ns l i = take-out None h ns (λ k e. absurd (none_some e)) l i
 
-  -- a chain apart from that one stays
+  -- a chain that has no number in common with that one is unchanged
   pub keeps-from : (h : Option ℕ) (ns : List ℕ) → Leads nx bf lk None h ns → IsOneOf ns number
       → (o : Option ℕ) (os : List ℕ) → Leads nx bf lk None o os → AreApart ns os
       → Leads nx' bf' lk' None o os

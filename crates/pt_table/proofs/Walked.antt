@@ -13,7 +13,7 @@ module _ {T : Type 0} (rows : List (ObjectRow T)) where
   IsRest rest left =
       (p : Option ℕ) × Leads (next_number rows) (number_before rows) (is_linked rows) p rest left
 
-  -- so many steps from the head of a chain, the others of its rows are left
+  -- this many steps from the head of a chain, the others of its rows are left
   abbrev pub IsWalked : Option ℕ → ℕ → Option ℕ → Type 0
   IsWalked head steps rest =
       (ns : List ℕ) → IsChain rows head ns
@@ -64,7 +64,7 @@ module _ {T : Type 0} (rows : List (ObjectRow T)) where
       × (IsRising (m ∷ left) → IsRising (n ∷ ns))) same
       (ns, (None, (refl, l.1, l.2, l.3, l.4)), λ up. up)
 
-  -- what is above a number is above those below it
+  -- numbers above a number are above each lower one
   above : (low high : ℕ) (ns : List ℕ) → low < high → Each (λ m. high < m) ns
       → Each (λ m. low < m) ns
   above low high [] lt each = tt
@@ -105,7 +105,7 @@ module _ {T : Type 0} (rows : List (ObjectRow T)) where
       go [] r up = up (tt, tt)
       go (n ∷ more) r up = absurd (none_some (sym e ∙ r.1.4.0))
 
-  -- no numbers rise
+  -- an empty chain rises
   pub rise-none : (head : Option ℕ) → head ≡ None → (ns : List ℕ) → IsChain rows head ns
       → IsRising ns
   rise-none head e [] l = tt

@@ -1,4 +1,4 @@
--- Changing a row in its slot, where the row keeps its number.
+-- Changing a row in its slot, if the row keeps its number.
 use Rattle.std.proofs.Common.{◌≡◌, ◌≢◌, ◌∙◌, ℕ, true, false, nat_eq, List, [], ◌∷◌, refl, ap, sym}
 use Rattle.std.proofs.Common.{Option, None, Some, ◌⊎◌, inl, inr, get_or-set_same, get_or-set_other}
 use Rattle.std.proofs.Common.{if◌then◌else◌}
@@ -20,7 +20,7 @@ module _ {R : Type 0} {number : R → ℕ} {slots : List (Option R)} {numbers : 
   abbrev written : List (Option R)
   written = set slots slot (Some (change row))
 
-  -- what the written slot has, and what the others have
+  -- the row in the written slot, and those in the others
   pub written_here : row_in_slot written slot ≡ Some (change row)
   written_here =
       get_or-set_same slots slot (Some (change row)) None (slot_within slots slot row here)
@@ -28,7 +28,7 @@ module _ {R : Type 0} {number : R → ℕ} {slots : List (Option R)} {numbers : 
   pub written_other : (k : ℕ) → k ≢ slot → row_in_slot written k ≡ row_in_slot slots k
   written_other k apart = get_or-set_other slots slot k (Some (change row)) None apart
 
-  -- what a change keeps is in each slot what it was
+  -- a part of the row that the change keeps is unchanged in each slot
   pub same_in : {X : Type 0} (part : R → X) → part (change row) ≡ part row → (k : ℕ)
       → option_map part (row_in_slot written k) ≡ option_map part (row_in_slot slots k)
   same_in part kept k = elim (eqb_tells k slot) [

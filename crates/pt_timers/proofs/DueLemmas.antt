@@ -1,4 +1,4 @@
--- The sooner of the deadlines that are due by the one clock and by the other.
+-- The sooner of the deadlines that are due by one clock and by the other.
 use Rattle.std.proofs.Common.{◌≡◌, ℕ, Bool, true, false, cond, List, Option, Some, None, refl}
 use Rattle.std.proofs.Common.{arith}
 use Rattle.std.proofs.lemmas.Bool.Decides.{nat_tests}
@@ -60,7 +60,7 @@ module _ (w : List (ℕ × (Clock × ℕ))) (real mono : Option ℕ) where
           first q Real m f r = one.2 q m f
           first q Mono m f r = before-back (m, q) (pair_of b) (pair_of a) (other.2 q m f) e
 
-  -- where one is due by the monotonic clock, the sooner of it and of what is due by the real one
+  -- if one is due by the monotonic clock, the sooner of it and of what is due by the real one
   pub sooner-due : (best : Option TimerKey) (t : TimerKey) → IsFirstDue w Real real best
       → IsFirstDue w Mono mono (Some t)
       → IsLeastDue w (moments real mono) (Some (sooner_of best t).place)

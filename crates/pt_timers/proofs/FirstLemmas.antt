@@ -17,7 +17,7 @@ module _ (places w : List (ℕ × (Clock × ℕ))) (view : places ≡ w)
     (is_due : Clock → TimerKey → Bool) (kept : AreTimers places is_due) (k : Clock)
     (order : List TimerKey) (own : (q : TimerKey) → is_in order q ≡ is_due k q)
   where
-    -- what is set is in its order
+    -- a deadline that is set is in its order
     listed : (q m : ℕ) → deadline_at w q ≡ Some (k, m)
         → is_in order (key_of m q) ≡ true
     listed q m e =
@@ -25,7 +25,7 @@ module _ (places w : List (ℕ × (Clock × ℕ))) (view : places ≡ w)
         ∙ kept.ordered q k m (ap (λ ts. deadline_at ts q) view ∙ e)
 
     module _ (none : (q : TimerKey) → is_in order q ≡ false) where
-      -- where the order is empty, nothing is set
+      -- if the order is empty, nothing is set
       not-set : (q m : ℕ) → deadline_at w q ≡ Some (k, m) → ⊥
       not-set q m e =
           false≢true (sym (none (key_of m q)) ∙ listed q m e)

@@ -1,4 +1,4 @@
--- The keys of a heap, as one is put in or taken away, and its first.
+-- The keys of a heap, when one is put in or taken away, and its first key.
 use Rattle.std.proofs.Common.{◌≡◌, ℕ, ◌<◌, ◌&&◌, ◌||◌, not, Bool, true, false, List, [], ◌∷◌}
 use Rattle.std.proofs.Common.{Option, Some, None, length, refl, sym, ap, ◌∙◌, arith, get_or}
 use Rattle.std.proofs.lemmas.Bool.{false≢true}
@@ -29,7 +29,7 @@ same-back a b = grind (arith, nat_tests)
 pub same-self : (a : TimerKey) → same_key a a ≡ true
 same-self a = grind (arith, nat_tests)
 
--- the same keys are among the same ones
+-- equal keys are in the same lists
 pub in-same : (ks : List TimerKey) (a b : TimerKey) → same_key a b ≡ true → is_in ks a ≡ is_in ks b
 in-same ks a b e =
     let parts = same-parts-of a b e in
@@ -64,7 +64,7 @@ others-stay key old kept new is p q =
         → not (same_key k key) ≡ not (same_key key q)
     alike k e = ap not (grind (arith, nat_tests))
 
--- what is live is among the keys, and isn't canceled
+-- a key is live if it is among the keys and isn't canceled
 pub in-live : (keys canceled : List TimerKey) (q : TimerKey)
     → is_in (live keys canceled) q ≡ is_live keys canceled q
 in-live keys canceled q =
@@ -96,7 +96,7 @@ bound-in x (k ∷ ks) bound q h = go (bound-in x ks bound.1 q) (is_at (key_cmp q
     go later true e f = let low = bound.0 in grind (arith, nat_tests)
     go later false e f = later f
 
--- the head of a heap is its first
+-- the head of a heap is its first key
 pub head-first : (ks : List TimerKey) (x : TimerKey) → 0 < length ks → x ≡ get_or ks 0 x
     → IsUpperBound key_cmp x ks → IsFirst ks (Some x)
 head-first ks x some is bound = (head-in ks x some is, bound-in x ks bound)
@@ -108,7 +108,7 @@ neither-before : (a b : TimerKey) → pair_before (pair_of a) (pair_of b) ≡ fa
     → pair_before (pair_of b) (pair_of a) ≡ false → same_key a b ≡ true
 neither-before a b e f = grind (arith, nat_tests)
 
--- there is one first
+-- there is only one first key
 pub one-first : (ks : List TimerKey) (a b : TimerKey) → IsFirst ks (Some a) → IsFirst ks (Some b)
     → same_key a b ≡ true
 one-first ks a b f g = neither-before a b (g.1 a f.0) (f.1 b g.0)
@@ -116,7 +116,7 @@ one-first ks a b f g = neither-before a b (g.1 a f.0) (f.1 b g.0)
 same-as : (a b q : TimerKey) → same_key a b ≡ true → same_key a q ≡ same_key b q
 same-as a b q e = grind (arith, nat_tests)
 
--- what a pop says, where the first is known
+-- what a pop says, if the first key is known
 module _ (old new : List TimerKey) (first : TimerKey) (n : ℕ) (len : n ≡ length old)
     (top : IsFirst old (Some first)) (heap : IsHeap key_cmp old) where
   some-left : n ≡ 0 → ⊥
@@ -137,7 +137,7 @@ module _ (old new : List TimerKey) (first : TimerKey) (n : ℕ) (len : n ≡ len
       same : same_key x first ≡ true
       same = one-first old x first (here, bound-in x old (greatest heap).1) top
 
--- after a pop of the first, its like is there no more, unless it is first again
+-- after a pop of the first key, no key equal to it is left, unless one is first again
 pub gone : (old mid : List TimerKey) (first : TimerKey) (next : Option TimerKey)
     → IsFirst old (Some first) → ((q : TimerKey) → is_in old q ≡ (same_key first q || is_in mid q))
     → IsFirst mid next → is_found next first ≡ false
@@ -164,7 +164,7 @@ gone old mid first next top out after other q = go (same_key first q) refl
     go true e = not-there (is_in mid q) refl e
     go false e = sym (out q ∙ ap (λ b. b || is_in mid q) e)
 
--- where the first is first again, all its like are dropped
+-- if one is first again, all keys equal to it are dropped
 pub gone-again : (old mid new : List TimerKey) (first : TimerKey)
     → ((q : TimerKey) → is_in old q ≡ (same_key first q || is_in mid q))
     → ((q : TimerKey) → is_in new q ≡ (not (same_key first q) && is_in mid q))

@@ -12,7 +12,7 @@ use Rattle.pt_timers.specs.Deadlines.{key_cmp, ComeBefore, IsOrder}
 use Rattle.pt_timers.proofs.KeyLemmas.{in-same, same-parts-of}
 use Rattle.pt_timers.proofs.StaleLemmas.{more-before, not-before-last, one-moved}
 
--- a result that is no error has what a success says
+-- a result that is no error has what holds of a success
 pub on-no-error : {X E P : Type 0} (r : Result X E) (b : Bool) → b ≡ is_err r → b ≡ false
     → OnOk r P → P
 on-no-error (Ok x) b is fine holds = holds
@@ -94,7 +94,7 @@ pub kept-before : (cs new : List TimerKey) (last next : ℕ) (x : TimerKey) → 
 kept-before cs new last next x before is same q h =
     let low = before q (sym (ap (λ ks. is_in ks q) same) ∙ h) in omega (arith, is, low)
 
--- an order of which nothing changed
+-- an order in which nothing changed
 pub same-order : (ks cs new left : List TimerKey) (last : ℕ) → new ≡ ks → left ≡ cs
     → IsOrder ks cs last → IsOrder new left last
 same-order ks cs new left last keys canceled order =

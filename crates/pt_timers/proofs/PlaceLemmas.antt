@@ -1,4 +1,4 @@
--- What is set at a place, as the orders of the clocks have it.
+-- The deadline that is set at a place, as the orders of the clocks have it.
 use Rattle.std.proofs.Common.{◌≡◌, ℕ, ◌==◌, ◌||◌, ◌++◌, ◌⊎◌, Bool, true, false, cond}
 use Rattle.std.proofs.Common.{List, [], ◌∷◌, Option, Some, None, unwrap_or, refl, ap, ◌∙◌}
 use Rattle.std.proofs.Common.{inl, inr, ⊎_elim, arith, subst, append-nil}
@@ -35,7 +35,7 @@ at-key : (a q : TimerKey) → is_at (key_cmp a) q ≡ true → (q.nanos ≡ a.na
 at-key a q e = (grind (arith, nat_tests), grind (arith, nat_tests))
 
 module _ (k : Clock) (rest : List (ℕ × (Clock × ℕ))) (p : ℕ) where
-  -- what is set at a place is a key's of this clock, or comes after those
+  -- a deadline that is set at a place is that of a key of this clock, or is set after those
   pub set-in : (qs : List TimerKey) (l : Clock) (n : ℕ)
       → deadline_at (by_places k qs ++ rest) p ≡ Some (l, n)
       → ((k ≡ l) × (has qs (key_of n p) ≡ true)) ⊎ (deadline_at rest p ≡ Some (l, n))
@@ -62,7 +62,7 @@ module _ (k : Clock) (rest : List (ℕ × (Clock × ℕ))) (p : ℕ) where
           later true h = refl
           later false h = h
 
-  -- nothing is set at a place, so no key of this clock has it, and nothing is set after those
+  -- if nothing is set at a place, no key of this clock has it, and nothing is set after those
   pub none-set : (qs : List TimerKey) → deadline_at (by_places k qs ++ rest) p ≡ None
       → ((a : TimerKey) → a.place ≡ p → has qs a ≡ true → ⊥) × (deadline_at rest p ≡ None)
   none-set [] e = (λ a at h. false≢true h, e)
@@ -86,7 +86,7 @@ module _ (k : Clock) (rest : List (ℕ × (Clock × ℕ))) (p : ℕ) where
           none a at false i h = (after f).0 a at h
 
 module _ {A : Type 0} (o : Orders A) where
-  -- what is set at a place is due
+  -- a deadline that is set at a place is due
   pub is-due : (p : ℕ) (k : Clock) (n : ℕ) → deadline_at (listed o) p ≡ Some (k, n)
       → is_due_at o k (key_of n p) ≡ true
   is-due p k n e =
@@ -101,7 +101,7 @@ module _ {A : Type 0} (o : Orders A) where
           (set-in Mono [] p o.mono k n
           (ap (λ ts. deadline_at ts p) (append-nil (by_places Mono o.mono)) ∙ f))
 
-  -- where nothing is set, nothing is due
+  -- if nothing is set at a place, nothing is due there
   pub not-due-at : (p : ℕ) → deadline_at (listed o) p ≡ None
       → (k : Clock) (q : TimerKey) → q.place ≡ p → is_due_at o k q ≡ true → ⊥
   not-due-at p e Real q at h =

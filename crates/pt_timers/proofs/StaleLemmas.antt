@@ -1,4 +1,5 @@
--- The keys that aren't canceled, as one is put in or taken away, here or among the canceled ones.
+-- The keys that aren't canceled, when a key is put in or taken away, here or among the canceled
+-- ones.
 use Rattle.std.proofs.Common.{◌≡◌, ℕ, ◌<◌, ◌≤◌, ◌&&◌, ◌||◌, not, Bool, true, false, List}
 use Rattle.std.proofs.Common.{Option, Some, None, refl, sym, ap, ◌∙◌, arith}
 use Rattle.std.proofs.lemmas.Bool.{false≢true}
@@ -22,7 +23,7 @@ module _ (ks new cs : List TimerKey) (x : TimerKey)
       go false e =
           ap (λ b. not (is_in cs q) && b) (sym (out q ∙ ap (λ b. b || is_in new q) e))
 
-  -- what is among them now was among them before
+  -- a key that is among them now was among them before
   pub still-in : (q : TimerKey) → is_in new q ≡ true → is_in ks q ≡ true
   still-in q h = go (same_key x q) (out q ∙ ap (λ b. same_key x q || b) h)
     where
@@ -52,7 +53,7 @@ is-false : (b : Bool) → (b ≡ true → ⊥) → b ≡ false
 is-false true none = absurd (none refl)
 is-false false none = refl
 
--- where none is canceled, or none is there, the first isn't canceled
+-- if no key is canceled, the first isn't canceled
 pub none-apart : (ks cs : List TimerKey) → IsFirst cs None → IsApart ks cs
 none-apart ks cs none t first = none t
 
@@ -63,7 +64,7 @@ sooner-not-in a b c e f = grind (arith, nat_tests)
 not-itself : (a : ℕ × ℕ) → pair_before a a ≡ false
 not-itself a = grind (arith, nat_tests)
 
--- where all that are canceled are due after the first, it isn't canceled
+-- if all canceled keys are due after the first key, the first isn't canceled
 pub later-apart : (ks cs : List TimerKey) (a b : TimerKey) → IsFirst ks (Some a)
     → IsFirst cs (Some b) → pair_before (pair_of a) (pair_of b) ≡ true → IsApart ks cs
 later-apart ks cs a b first other before t top =
@@ -72,13 +73,13 @@ later-apart ks cs a b first other before t top =
     let late = other.1 a (in-same cs a t same ∙ h) in
     false≢true (sym late ∙ before))
 
--- a canceled key that is due before the first is not among the keys
+-- a canceled key that is due before the first key is not among the keys
 pub before-first : (ks : List TimerKey) (a b : TimerKey) → IsFirst ks (Some a)
     → pair_before (pair_of b) (pair_of a) ≡ true → is_in ks b ≡ false
 before-first ks a b first before =
     is-false (is_in ks b) (λ h. false≢true (sym (first.1 b h) ∙ before))
 
--- the first is live
+-- the first key is live
 pub first-live : (ks cs : List TimerKey) (a : TimerKey) → IsFirst ks (Some a) → IsApart ks cs
     → is_live ks cs a ≡ true
 first-live ks cs a first apart =
@@ -106,7 +107,7 @@ put-apart ks new cs left x apart put out t top = out t ∙ go (same_key x t) ref
           λ q h. top.1 q (older q h),
         )
 
--- what is live is among the keys
+-- a key that is live is among the keys
 pub live-in : (ks cs : List TimerKey) (q : TimerKey) → is_live ks cs q ≡ true → is_in ks q ≡ true
 live-in ks cs q h = go (is_in cs q) h
   where
@@ -127,7 +128,7 @@ one-in ks new cs left x put out q =
     go true false c = refl
     go false b c = refl
 
--- a key that came after the last place isn't among those that came before it
+-- a key that came after the last place isn't among those that came before that place
 pub not-before-last : (cs : List TimerKey) (last : ℕ) (x : TimerKey) → ComeBefore cs last
     → last < x.place → (q : TimerKey) → is_in cs q ≡ (not (same_key x q) && is_in cs q)
 not-before-last cs last x before late q = go (same_key x q) refl
@@ -214,13 +215,13 @@ module _ (ks cs w : List TimerKey) (view : live ks cs ≡ w) (x : TimerKey)
   viewed : (q : TimerKey) → is_live ks cs q ≡ is_in w q
   viewed q = sym (in-live ks cs q) ∙ ap (λ l. is_in l q) view
 
-  -- one that is live is more
+  -- one more key is live
   pub more-live : ((q : TimerKey) → is_live mks mcs q ≡ (same_key x q || is_live ks cs q))
       → (q : TimerKey) → is_in (live nks ncs) q ≡ (same_key x q || is_in w q)
   more-live put q =
       in-live nks ncs q ∙ (after q ∙ (put q ∙ ap (λ b. same_key x q || b) (viewed q)))
 
-  -- one that is live is less
+  -- one key less is live
   pub less-live : ((q : TimerKey) → is_live mks mcs q ≡ (not (same_key x q) && is_live ks cs q))
       → (q : TimerKey) → is_in (live nks ncs) q ≡ (not (same_key x q) && is_in w q)
   less-live out q =

@@ -1,4 +1,4 @@
--- The deadlines in their orders, as one is set or taken away.
+-- The deadlines in their orders, when one is set or taken away.
 use Rattle.std.proofs.Common.{◌≡◌, ℕ, ◌<◌, ◌==◌, ◌&&◌, ◌||◌, not, Bool, true, false, cond, List}
 use Rattle.std.proofs.Common.{Option, Some, None, inl, inr, refl, sym, ap, ap₂, ◌∙◌, ◌++◌, ◌⊎◌}
 use Rattle.std.proofs.Common.{Result, Ok, Err, OnOk, OnErr, subst, arith}
@@ -83,7 +83,7 @@ module _ (places : List (ℕ × (Clock × ℕ))) (is_due : Clock → TimerKey �
       same-parts k l a.nanos b.nanos
       (sym (kept.placed k a h).0 ∙ (ap (deadline_at places) at ∙ (kept.placed l b i).0))
 
-  -- what is set at a place is what is due there, if anything is
+  -- the deadline that is set at a place is what is due there, if anything is
   pub found-at : (p : ℕ) (found : Option (Clock × ℕ))
       → ((k : Clock) (n : ℕ) → found ≡ Some (k, n) → is_due k (key_of n p) ≡ true)
       → ((k : Clock) (n : ℕ) → is_due k (key_of n p) ≡ true → found ≡ Some (k, n))
@@ -103,7 +103,7 @@ module _ {A : Type 0} (old new : Orders A) (kept : AreTimers (listed old) (is_du
   module _ (unset : set_at p ≡ None) (few : n < most_nanos)
       (put : (l : Clock) (q : TimerKey)
       → is_due_at new l q ≡ (is_one k (key_of n p) l q || is_due_at old l q)) where
-    -- what is due now is the one that was put in, or was due before
+    -- a key that is due now is the one that was put in, or was due before
     by-put : (l : Clock) (q : TimerKey) → is_due_at new l q ≡ true
         → ((k ≡ l) × (n ≡ q.nanos) × (p ≡ q.place)) ⊎ (is_due_at old l q ≡ true)
     by-put l q h = go (is_one k (key_of n p) l q) refl (sym (put l q) ∙ h)
@@ -138,7 +138,7 @@ module _ {A : Type 0} (old new : Orders A) (kept : AreTimers (listed old) (is_du
         go (inl x) = subst (λ m. m < most_nanos) x.1 few
         go (inr x) = (kept.placed l q x).1
 
-    -- one deadline more
+    -- the deadlines after one more is set
     one-more : AreTimers (listed new) (is_due_at new)
     one-more = timers-of new set-once set-times
 
@@ -174,12 +174,12 @@ module _ {A : Type 0} (old new : Orders A) (kept : AreTimers (listed old) (is_du
 
   module _ (out : (l : Clock) (q : TimerKey)
       → is_due_at new l q ≡ (not (is_one k (key_of n p) l q) && is_due_at old l q)) where
-    -- what is due now was due before, and is not the one that was taken out
+    -- a key that is due now was due before, and is not the one that was taken out
     by-out : (l : Clock) (q : TimerKey) → is_due_at new l q ≡ true
         → (not (is_one k (key_of n p) l q) ≡ true) × (is_due_at old l q ≡ true)
     by-out l q h = and_parts (not (is_one k (key_of n p) l q)) _ (sym (out l q) ∙ h)
 
-    -- one deadline less, or as many
+    -- the deadlines after one is taken out, if it was there
     pub one-less : AreTimers (listed new) (is_due_at new)
     one-less =
         timers-of new
@@ -275,7 +275,7 @@ module _ {A X E : Type 0} (old new : Orders A) (answer : Result X E) (k : Clock)
       free : deadline_at (listed old) p ≡ None
       free = ap (λ ts. deadline_at ts p) view ∙ unset
 
-      -- whether it is refused or not
+      -- the deadlines are right whether one is refused or not
       pub set-timers : OnErr answer IsSame → AreTimers (listed new) (is_due_at new)
       set-timers same = go answer put same
         where

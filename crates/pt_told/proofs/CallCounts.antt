@@ -1,4 +1,4 @@
--- How many of some calls are a client's.
+-- How many of some calls belong to a client.
 use Rattle.std.proofs.Common.{◌≡◌, ℕ, ◌+◌, ◌==◌, Bool, true, false, not, cond, inl, inr, List, []}
 use Rattle.std.proofs.Common.{◌∷◌, ◌++◌, length, Some, is_some, refl, sym, ap, ◌∙◌, arith, filter}
 use Rattle.std.proofs.lemmas.Bool.Decides.{nat_tests}
@@ -14,11 +14,11 @@ use Rattle.pt_model.proofs.OneEach.{one_each}
 use Rattle.pt_model.proofs.Apart.{Apart, open_apart}
 use Rattle.pt_told.specs.Tallies.{heard, open_count}
 
--- 1 where the call is the client's
+-- 1 if the call is the client's, else 0
 abbrev pub its : ℕ → WaitingCall → ℕ
 its c w = cond (w.client == c) 1 0
 
--- how many of these calls are the client's
+-- the number of these calls that are the client's
 abbrev pub calls_of : ℕ → List WaitingCall → ℕ
 calls_of c [] = 0
 calls_of c (w ∷ ws) = its c w + calls_of c ws
@@ -28,7 +28,7 @@ pub calls_of-append : (c : ℕ) (xs ys : List WaitingCall)
 calls_of-append c [] ys = omega arith
 calls_of-append c (x ∷ xs) ys = omega (arith, calls_of-append c xs ys)
 
--- none of them is
+-- none of them is the client's
 pub calls_of-none : (c : ℕ) (ws : List WaitingCall)
     → ((w : WaitingCall) → In w ws → (w.client == c) ≡ false)
     → calls_of c ws ≡ 0
@@ -37,7 +37,7 @@ calls_of-none c (w ∷ ws) f =
     let ne : (w.client == c) ≡ false = f w (inl refl) in
     rw ne (omega (arith, calls_of-none c ws (λ v i. f v (inr i))))
 
--- a filter that all the client's calls pass
+-- a filter that passes all calls of the client
 pub calls_of-kept : (c : ℕ) (p : WaitingCall → Bool) (ws : List WaitingCall)
     → ((w : WaitingCall) → (w.client == c) ≡ true → p w ≡ true)
     → calls_of c (filter p ws) ≡ calls_of c ws
@@ -52,7 +52,7 @@ calls_of-kept c p (w ∷ ws) f = go (p w) refl (calls_of-kept c p ws f)
         false_by (w.client == c) (λ t. false≢true (sym e ∙ f w t)) in
         rw ne (omega (arith, ih))
 
--- those that pass, and the others
+-- the calls that pass a filter, and the others
 pub calls_of-split : (c : ℕ) (p : WaitingCall → Bool) (ws : List WaitingCall)
     → calls_of c (filter p ws) + calls_of c (filter (λ w. not (p w)) ws) ≡ calls_of c ws
 calls_of-split c p [] = refl
@@ -66,7 +66,7 @@ calls_of-split c p (w ∷ ws) = go (p w) (calls_of-split c p ws)
     go true ih = omega (arith, ih)
     go false ih = omega (arith, ih)
 
--- one of them is taken away
+-- one of them is removed
 pub calls_of-out : (c : ℕ) (ws : List WaitingCall) (u : WaitingCall) → In u ws → Apart ws
     → its c u + calls_of c (filter (λ w. not (w.place == u.place)) ws) ≡ calls_of c ws
 calls_of-out c [] u i a = absurd i
@@ -86,7 +86,7 @@ calls_of-out c (x ∷ xs) u (inr i) a =
     let ne : (x.place == u.place) ≡ false = grind (arith, nat_tests) in
     rw ne (omega (arith, calls_of-out c xs u i a.1))
 
--- a trip tells each of its calls
+-- a Trip answers each of its calls
 pub heard-trip : (c : ℕ) (ws : List WaitingCall) → heard c (told_by_trip ws) ≡ calls_of c ws
 heard-trip c [] = refl
 heard-trip c (w ∷ ws) = go (w.client == c) (heard-trip c ws)
@@ -100,7 +100,7 @@ heard-trip c (w ∷ ws) = go (w.client == c) (heard-trip c ws)
     go true ih = omega (arith, ih)
     go false ih = omega (arith, ih)
 
--- where no two are of one client, one is the client's at most
+-- if no two calls are of one client, at most one is this client's
 one_each_of : (c : ℕ) (ws : List WaitingCall)
     → ((v w : WaitingCall) → In v ws → In w ws → v.client ≡ w.client → v ≡ w) → Apart ws
     → calls_of c ws ≡ cond (is_some (place_of ws c)) 1 0
@@ -125,6 +125,6 @@ one_each_of c (w ∷ ws) one a = go (w.client == c) refl
         false≢true (sym k ∙ yes))) in
         omega (arith, none)
 
--- a client's open calls are one or none
+-- a client has one open call or none
 pub calls_of-open : (h : History) (c : ℕ) → Follows h → calls_of c (open_calls h) ≡ open_count h c
 calls_of-open h c f = one_each_of c (open_calls h) (one_each h f) (open_apart h f)

@@ -39,7 +39,7 @@ use Rattle.pt_told.specs.Tallies.{heard, open_count, asks}
 use Rattle.pt_told.proofs.CallCounts.{calls_of, calls_of-append, calls_of-kept, calls_of-split}
 use Rattle.pt_told.proofs.CallCounts.{calls_of-out, heard-trip, calls_of-open}
 
--- what an operation leaves waiting is the client's, and is one call if it has no answer
+-- an operation with no answer leaves one call waiting, which is the client's
 left_waiting : (h : History) (d : ℕ) (k : Clock) (x : Operation) (c : ℕ)
     → reply (operation_verdict h d x) ≡ None
     → calls_of c (stood_by_operation h d k x) ≡ cond (d == c) 1 0
@@ -81,7 +81,7 @@ one_told c d j x = go (d == c)
     go true = refl
     go false = refl
 
--- a client that lives after it is not the one that died
+-- a client that lives after a Death is not the one that died
 not_died : (h : History) (d c : ℕ) → is_alive (h ▷ Death d) c ≡ true → (d == c) ≡ false
 not_died h d c a = go (d == c) refl a
   where
@@ -89,7 +89,7 @@ not_died h d c a = go (d == c) refl a
     go true e t = absurd cc
     go false e t = e
 
--- an expired call is answered so, or is a wait and stays open
+-- an expired call is answered, or is a wait that stays open
 expiry_tally : (c : ℕ) (w : WaitingCall) (ws : List WaitingCall) (b : Bool) → In w ws → Apart ws
     → heard c (told_by_expiry w.place (Some w) b)
     + calls_of c (filter (λ v. b || not (v.place == w.place)) ws) ≡ calls_of c ws
@@ -100,7 +100,7 @@ expiry_tally c w ws false i a =
     omega (arith, one_told c w.client w.place Etimedout, calls_of-out c ws w i a)
 
 module _ (h : History) (c : ℕ) where
-  -- the client's calls that are open after an entry, and its answers by it
+  -- the client's calls that are open after an entry, and the answers that the entry gives it
   calls_step : (e : Entry) → Follows h → Step h e → is_alive (h ▷ e) c ≡ true
       → heard c (told h e) + calls_of c (open_calls (h ▷ e)) ≡ calls_of c (open_calls h) + asks c e
   calls_step _ f (joins p n lt) a = rw (open-join h p (Fresh-follows h f)) (omega arith)
@@ -136,7 +136,7 @@ module _ (h : History) (c : ℕ) where
       rw (open-expire h w f i, found_open h f w i)
       (omega (arith, expiry_tally c w (open_calls h) (is_wait w.role) i (open_apart h f)))
 
-  -- its answers with its open call: a call adds one
+  -- its answers plus its open call: only a call of its own adds one
   pub tally_step : (e : Entry) → Follows h → Step h e → is_alive (h ▷ e) c ≡ true
       → heard c (told h e) + open_count (h ▷ e) c ≡ open_count h c + asks c e
   tally_step e f s a =

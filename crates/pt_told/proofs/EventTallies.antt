@@ -1,4 +1,4 @@
--- What one event, with the entries that must follow it, makes of a client's answers.
+-- How one event, with the entries that must follow it, changes a client's answers.
 use Rattle.std.proofs.Common.{◌≡◌, ℕ, ◌+◌, ◌≤◌, true, false, cond, List, [], ◌∷◌, ◌++◌, Some}
 use Rattle.std.proofs.Common.{is_some, refl, sym, ap, ◌∙◌, subst, arith}
 use Rattle.std.proofs.lemmas.List.{append_cancel_left}
@@ -50,7 +50,7 @@ module _ (s : Start) (old : List Entry) (v : Event) (new : List Entry) (g : Goes
     whole : behind s new ≡ onto (h ▷ x) fs
     whole = ap (behind s) g.extends.1 ∙ onto-append (Begin s) old (x ∷ fs)
 
-    -- the others are forced
+    -- the other entries are forced
     forced_ones : events_of fs ≡ []
     forced_ones =
         let all : events_of (old ++ x ∷ fs) ≡ events_of old ++ v ∷ [] =
@@ -83,7 +83,7 @@ module _ (s : Start) (old : List Entry) (v : Event) (new : List Entry) (g : Goes
     pub latest-more : (c : ℕ) → latest (behind s new) c ≡ latest (h ▷ x) c
     latest-more c = ap (λ g. latest g c) whole ∙ latest-quiet c (h ▷ x) fs forced_ones
 
-    -- one outer entry more
+    -- there is one more outer entry
     pub outer-more : outer (behind s new) ≡ outer h + 1
     outer-more =
         let one : (cond {A = ℕ} (is_forced x) 0 1) ≡ 1 = rw (not_forced h v) refl in
@@ -105,7 +105,7 @@ module _ (s : Start) (old : List Entry) (v : Event) (new : List Entry) (g : Goes
     pub told-more : (c : ℕ) → told_count s old c ≤ told_count s new c
     told-more c = omega (arith, told_parts c)
 
-    -- a client that lives then: its own call alone adds to its answers with its open call
+    -- for a client that lives afterwards, only its own call adds to its answers plus its open call
     pub tally-more : (c : ℕ) → is_alive (behind s new) c ≡ true
         → told_count s new c + open_count (behind s new) c
         ≡ told_count s old c + open_count h c + asks c x

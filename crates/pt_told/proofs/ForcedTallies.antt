@@ -1,4 +1,4 @@
--- What forced entries leave as it is.
+-- What forced entries leave unchanged.
 use Rattle.std.proofs.Common.{◌≡◌, ℕ, ◌+◌, true, List, [], ◌∷◌, refl, ◌∙◌, arith}
 use Rattle.pt_model.specs.declared.entry.Entry.{Entry}
 use Rattle.pt_model.specs.declared.entry.Entry.TheVariants.{Join, Call, Death, Moment, Grant, Trip}
@@ -13,7 +13,7 @@ use Rattle.pt_model.proofs.Histories.{follows-part}
 use Rattle.pt_told.specs.Tallies.{heard, open_count}
 use Rattle.pt_told.proofs.EntryTallies.{tally_step, heard-append}
 
--- what no forced entry changes, none of them do
+-- what each forced entry leaves unchanged, a list of them does too
 quiet : {X : Type 0} (f : History → X) → ((h : History) (e : Entry) → events_of (e ∷ []) ≡ []
     → f (h ▷ e) ≡ f h) → (h : History) (fs : List Entry) → events_of fs ≡ [] → f (onto h fs) ≡ f h
 quiet f one h [] e = refl
@@ -70,7 +70,7 @@ pub outer-quiet : (h : History) (fs : List Entry) → events_of fs ≡ []
     → outer (onto h fs) ≡ outer h
 outer-quiet h fs e = quiet outer outer_one h fs e
 
--- a living client's answers with its open call, through forced entries
+-- a living client's answers plus its open call, over forced entries
 pub tally-quiet : (c : ℕ) (h : History) (fs : List Entry) → events_of fs ≡ []
     → Follows (onto h fs) → is_alive h c ≡ true
     → heard c (replies_from h fs) + open_count (onto h fs) c ≡ open_count h c

@@ -83,7 +83,7 @@ latest_step h _ f ih (yields m s t) c j l =
 latest_step h _ f ih (expires w s i t) c j l =
     still_kept h (Expire w.place) j c (ih c j l)
 
--- a seal keeps the latest calls of the living, with their answers
+-- a seal preserves the latest calls of living clients, with their answers
 latest_sealed : (h : History) → Follows h → LatestKept h → LatestKept (Begin (seal h))
 latest_sealed h f ih c j l = go (is_alive h c) refl l
   where
@@ -116,7 +116,7 @@ latest_sealed h f ih c j l = go (is_alive h c) refl l
 pub latest-kept : (h : History) → Follows h → (c j : ℕ) → latest h c ≡ Some j → Kept h j c
 latest-kept h f = by_steps LatestKept (λ c j l. absurd cc) latest_step latest_sealed h f
 
--- what a call leaves waiting is the caller's, and is at this place
+-- a call that is left waiting is the caller's own, and is at this place
 left_own : (h : History) (c : ℕ) (E : Effect) → Allowed h c E → (w : WaitingCall)
     → In w (left_by E) → (w.client ≡ c) × (w.place ≡ place h)
 left_own h c (Waits v) a w (inl e) =
@@ -199,7 +199,7 @@ module _ (h : History) (f : Follows h) (c j : ℕ) (l : latest h c ≡ Some j) w
       let both : ◌≡◌ {A = Option Outcome} (Some x) None = sym a ∙ (ap (outcome h) at ∙ none) in
       cc
 
-  -- if it isn't, it is open while the client lives
+  -- if it is not answered, it is open while the client lives
   unanswered : is_alive h c ≡ true → open_place h c ≡ None → outcome h j ≡ None → ⊥
   unanswered a o n = go (latest-kept h f c j l)
     where
@@ -224,7 +224,7 @@ module _ (h : History) (f : Follows h) (c j : ℕ) (l : latest h c ≡ Some j) w
       go (Some k) po None eo = refl
       go (Some k) po (Some x) eo = absurd (answered k x po eo)
 
--- a living client that made a call has one open if its latest has no answer
+-- a living client that made a call has an open call exactly if its latest has no answer
 pub answer-tally : (h : History) → Follows h → (c : ℕ) → is_alive h c ≡ true
     → is_some (latest h c) ≡ true → open_count h c ≡ cond (is_some (answer_of h c)) 0 1
 answer-tally h f c a s = go (latest h c) refl s
@@ -234,7 +234,7 @@ answer-tally h f c a s = go (latest h c) refl s
     go None e t = absurd cc
     go (Some j) e t = rw (a, e) (latest_tally h f c j e a)
 
--- the dead have no open call
+-- a dead client has no open call
 pub dead-open : (h : History) (c : ℕ) → is_alive h c ≡ false → open_place h c ≡ None
 dead-open h c d = go (open_place h c) refl
   where

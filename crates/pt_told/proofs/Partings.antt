@@ -4,7 +4,7 @@ use Rattle.std.proofs.Common.{arith}
 use Rattle.pt_model.specs.declared.entry.Event.{Event}
 use Rattle.pt_told.specs.OwnEvents.{PartsAt, Finds}
 
--- they part at one place alone
+-- they part at one place at most
 pub parts-once : (xs ys : List (ℕ × Event)) (j k : ℕ) → PartsAt xs ys j → PartsAt xs ys k → j ≡ k
 parts-once [] [] j k p q = absurd p
 parts-once (x ∷ xs) [] j k p q = sym p ∙ q
@@ -14,7 +14,7 @@ parts-once (x ∷ xs) (y ∷ ys) j k (inl p) (inr q) = absurd (q.0 p.0)
 parts-once (x ∷ xs) (y ∷ ys) j k (inr p) (inl q) = absurd (p.0 q.0)
 parts-once (x ∷ xs) (y ∷ ys) j k (inr p) (inr q) = sym p.1 ∙ q.1
 
--- the same accounts don't part
+-- equal accounts never part
 pub parts-never : (xs ys : List (ℕ × Event)) (j : ℕ) → xs ≡ ys → PartsAt xs ys j → ⊥
 parts-never xs ys j e p = go ys (subst (λ zs. PartsAt zs ys j) e p)
   where
@@ -23,13 +23,13 @@ parts-never xs ys j e p = go ys (subst (λ zs. PartsAt zs ys j) e p)
     go (x ∷ xs) (inl p) = go xs p.1
     go (x ∷ xs) (inr p) = p.0 refl
 
--- and so it is the least
+-- so the place at which they part is the least
 pub parts-found : (xs ys : List (ℕ × Event)) (k : ℕ) → PartsAt xs ys k
     → Finds (PartsAt xs ys) (xs ≡ ys) (Some k)
 parts-found xs ys k p =
     (p, λ j q. let same : k ≡ j = parts-once xs ys k j p q in omega (arith, same))
 
--- what agrees or parts in the rest does so as a whole
+-- accounts agree if what remains of them does, and part where what remains of them parts
 pub record Reduces (xs ys us vs : List (ℕ × Event)) : Type 0 where
   pub same : us ≡ vs → xs ≡ ys
   pub parts : (k : ℕ) → PartsAt us vs k → PartsAt xs ys k

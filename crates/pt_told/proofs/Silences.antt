@@ -1,4 +1,4 @@
--- A client has no entries of its own before it joins, and none after it died.
+-- A client has no entries of its own before it joins or after it dies.
 use Rattle.std.proofs.Common.{◌≡◌, ◌≢◌, ℕ, suc, ◌+◌, ◌≤◌, ◌<◌, ◌==◌, ◌⊎◌, inl, inr, Bool, true}
 use Rattle.std.proofs.Common.{false, cond, List, [], ◌∷◌, ◌++◌, length, Option, Some, None, is_some}
 use Rattle.std.proofs.Common.{refl, sym, ap, ◌∙◌, arith}
@@ -15,7 +15,7 @@ use Rattle.pt_model.proofs.Histories.{follows-part}
 use Rattle.pt_model.proofs.Sound.{Fresh-follows, alive_below}
 use Rattle.pt_told.specs.OwnEvents.{own_event, placed, own_from}
 
--- who doesn't live isn't one that does
+-- a client that does not live is not one that does
 other : (h : History) (c d : ℕ) → is_alive h c ≡ false → is_alive h d ≡ true
     → (d == c) ≡ false
 other h c d dead lives = go (d == c) refl
@@ -34,7 +34,7 @@ module _ (h : History) (c : ℕ) (dead : is_alive h c ≡ false) (apart : place 
       go false e = refl
       go true e = let same : place h ≡ c = grind (arith, nat_tests) in absurd (apart same)
 
-  -- the next entry isn't its own
+  -- the next entry is not the client's own
   silent : (e : Entry) → Step h e → own_event c e ≡ None
   silent _ (joins p n lt) = rw elsewhere refl
   silent _ (calls d call n a o) = rw (other h c d dead a) refl
@@ -45,7 +45,7 @@ module _ (h : History) (c : ℕ) (dead : is_alive h c ≡ false) (apart : place 
   silent _ (yields m s o) = refl
   silent _ (expires w s i t) = refl
 
-  -- and it doesn't live then
+  -- the client does not live after it either
   still : (e : Entry) → Step h e → is_alive (h ▷ e) c ≡ false
   still _ (joins p n lt) = rw elsewhere dead
   still _ (calls d call n a o) = dead
@@ -56,7 +56,7 @@ module _ (h : History) (c : ℕ) (dead : is_alive h c ≡ false) (apart : place 
   still _ (yields m s o) = dead
   still _ (expires w s i t) = dead
 
--- no entry of these is its own, if it doesn't live and doesn't join by them
+-- none of these entries is the client's own, if it does not live and does not join by them
 silent-from : (h : History) (es : List Entry) (c : ℕ) → Follows (onto h es)
     → is_alive h c ≡ false → (c < place h) ⊎ (place h + length es ≤ c)
     → own_from c (place h) es ≡ []
@@ -76,7 +76,7 @@ silent-from h (e ∷ es) c f dead at =
     further (inl lt) = inl (omega (arith, lt))
     further (inr le) = inr (omega (arith, le))
 
--- before it joins
+-- before its Join
 pub silent-before : (h : History) (es : List Entry) (c : ℕ) → Follows (onto h es)
     → place h + length es ≤ c → own_from c (place h) es ≡ []
 silent-before h es c f le =

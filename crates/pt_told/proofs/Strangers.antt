@@ -1,4 +1,4 @@
--- A client that has not joined yet was told nothing.
+-- A client that has not joined yet has got no answers.
 use Rattle.std.proofs.Common.{◌≡◌, ℕ, ◌≤◌, ◌<◌, ◌==◌, false, List, [], ◌∷◌, refl, sym, ◌∙◌, arith}
 use Rattle.std.proofs.lemmas.Bool.Decides.{nat_tests}
 use Rattle.pt_model.specs.declared.entry.Entry.{Entry}
@@ -16,7 +16,7 @@ use Rattle.pt_told.specs.Tallies.{heard, told_count, open_count}
 use Rattle.pt_told.proofs.CallCounts.{calls_of-none, calls_of-open}
 use Rattle.pt_told.proofs.EntryTallies.{heard-append}
 
--- answers to clients below a number, none of which is this one
+-- if all answers go to clients below a number, a client that is not below it gets none
 heard_below : (n c : ℕ) (ts : List Told) → Each (λ (t : Told). t.client < n) ts → n ≤ c
     → heard c ts ≡ 0
 heard_below n c [] a le = refl

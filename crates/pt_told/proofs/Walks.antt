@@ -1,4 +1,4 @@
--- A walk through a client's own entries, each beside the next of what it says that it did.
+-- A walk through a client's own entries, each compared with the next event that it claims.
 use Rattle.std.proofs.Common.{◌≡◌, ◌≢◌, ℕ, zero, suc, ◌==◌, ◌+◌, ◌-◌, ◌≤◌, ◌<◌, min, max, inl, inr}
 use Rattle.std.proofs.Common.{Bool, true, false, cond, nat_le, List, [], ◌∷◌, ◌++◌, length, take}
 use Rattle.std.proofs.Common.{drop, append_assoc, slice_get, Option, Some, None, IfSome, refl, sym}
@@ -20,7 +20,7 @@ use Rattle.pt_told.proofs.Silences.{silent-before, silent-after}
 use Rattle.pt_told.proofs.Partings.{parts-found, parts-never, Reduces, reduces-not, reduces-one}
 use Rattle.pt_told.proofs.Partings.{reduces-as}
 
--- the entries from the i-th on, and those from the next one on
+-- its own entries from index i on, and those from the next index on
 own-drop : (c p : ℕ) (es : List Entry) (i : ℕ)
     → own_from c p (drop i es) ≡ placed p (own_if c (slice_get es i))
     ++ own_from c (suc p) (drop (suc i) es)
@@ -29,7 +29,7 @@ own-drop c p [] (suc i) = refl
 own-drop c p (e ∷ es) zero = refl
 own-drop c p (e ∷ es) (suc i) = own-drop c p es i
 
--- the first n entries, and the others
+-- its own among the first n entries, and among the others
 own-parts : (c p : ℕ) (es : List Entry) (n : ℕ)
     → own_from c p es ≡ own_from c p (take n es) ++ own_from c (p + n) (drop n es)
 own-parts c p es zero = ap (λ q. own_from c q es) (let e : p ≡ p + 0 = omega arith in e)
@@ -67,7 +67,7 @@ death-entry c d (Trip b) o = absurd cc
 death-entry c d (Yield m) o = absurd cc
 death-entry c d (Expire j) o = absurd cc
 
--- what is at an index splits the list there
+-- the entry at an index splits the list there
 split-at : (es : List Entry) (i : ℕ) (e : Entry) → slice_get es i ≡ Some e
     → (es ≡ take i es ++ e ∷ drop (suc i) es) × (length (take i es) ≡ i)
 split-at [] zero e g = absurd cc
@@ -80,7 +80,7 @@ split-at (x ∷ es) (suc i) e g =
     (ap (λ ys. x ∷ ys) rest.0, ap suc rest.1)
 
 module _ (s : Start) (es : List Entry) (c : ℕ) where
-  -- what is left of its own entries at a place
+  -- its own entries that remain at a place
   abbrev pub own_left : ℕ → List (ℕ × Event)
   own_left p = own_from c p (drop (p - s.at) es)
 
@@ -96,7 +96,7 @@ module _ (s : Start) (es : List Entry) (c : ℕ) where
       ap (own_from c p)
       (drop_all (p - s.at) es (omega (arith, le, place-behind s es)))
 
-  -- none is left after its Death
+  -- none remains after its Death
   pub own-dead : Follows (behind s es) → (p d : ℕ) → s.at ≤ p
       → own_at s es c p ≡ Some (event.Death d) → own_left (suc p) ≡ []
   own-dead f p d le o = go (slice_get es (p - s.at)) refl o
@@ -150,7 +150,7 @@ module _ (s : Start) (es : List Entry) (c : ℕ) where
           ∙ ap own_left (sym top)))
 
 module _ (k : ℕ) (cs : List (ℕ × Event)) where
-  -- what is left of the claims from the i-th on
+  -- the claims that remain from index i on
   abbrev pub claims_left : ℕ → List (ℕ × Event)
   claims_left i = placed_since k (drop i cs)
 
@@ -183,7 +183,7 @@ module _ (k : ℕ) (cs : List (ℕ × Event)) where
       ap (placed_since k) (drop-get cs i x g) ∙ rw early refl
 
 module _ (s : Start) (es : List Entry) (c : ℕ) (cs : List (ℕ × Event)) where
-  -- what is left at a place and from a claim on decides all
+  -- what remains at a place, and from a claim on, decides about all
   abbrev pub Walks : ℕ → ℕ → Type 0
   Walks p i =
       Reduces (own_since s es c) (placed_since s.at cs) (own_left s es c p) (claims_left s.at cs i)
@@ -196,7 +196,7 @@ module _ (s : Start) (es : List Entry) (c : ℕ) (cs : List (ℕ × Event)) wher
       (reduces-not (own_since s es c) (placed_since s.at cs))
       (own-begin s es c f ∙ ap (own_left s es c) (sym at)) (sym first)
 
-  -- an entry that isn't its own
+  -- an entry that is not the client's own
   pub walk-on : (p i : ℕ) → s.at ≤ p → own_at s es c p ≡ None → Walks p i → Walks (suc p) i
   walk-on p i le none w =
       reduces-as (own_since s es c) (placed_since s.at cs) (own_left s es c p)
@@ -208,7 +208,7 @@ module _ (s : Start) (es : List Entry) (c : ℕ) (cs : List (ℕ × Event)) wher
       heads : own_left s es c p ≡ (p, v) ∷ own_left s es c (suc p)
       heads = own-next s es c p le ∙ ap (λ o. placed p o ++ own_left s es c (suc p)) own
 
-      -- one that is the next claim
+      -- an entry of its own that is the next claim
       pub walk-met : (j : ℕ) (x : ℕ × Event) → slice_get cs i ≡ Some x → (p, v) ≡ x
           → claims_left s.at cs j ≡ claims_left s.at cs (suc i) → Walks (suc p) j
       walk-met j x claim same next =
@@ -221,7 +221,7 @@ module _ (s : Start) (es : List Entry) (c : ℕ) (cs : List (ℕ × Event)) wher
           (claims-next s.at cs i x claim late ∙ ap (λ xs. x ∷ xs) (sym next)))
           same
 
-      -- one that isn't
+      -- an entry of its own that is not the next claim
       pub walk-parts : (k : ℕ)
           → IfSome (slice_get cs i) (λ x. s.at ≤ x.0) → Compares (p, v) (slice_get cs i) (Some k)
           → PartsAt (own_since s es c) (placed_since s.at cs) k
@@ -236,7 +236,7 @@ module _ (s : Start) (es : List Entry) (c : ℕ) (cs : List (ℕ × Event)) wher
           go (Some x) e late d =
               rw (heads, claims-next s.at cs i x e late) (inr d)
 
-  -- none of its own is left
+  -- none of its own entries remains
   pub walk-end : (p i : ℕ) → Walks p i → own_left s es c p ≡ []
       → IfSome (slice_get cs i) (λ x. s.at ≤ x.0) → (o : Option ℕ)
       → o ≡ place_if (slice_get cs i)

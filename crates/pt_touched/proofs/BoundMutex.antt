@@ -1,4 +1,4 @@
--- Conditions: all waits that stand at one, and aren't moved, wait with one mutex.
+-- All unmoved waits at a condition wait with one mutex.
 use Rattle.std.proofs.Common.{◌≡◌, ℕ, ◌⊎◌, inl, inr, Bool, true, false, cond, not, ◌&&◌, ◌==◌, List}
 use Rattle.std.proofs.Common.{[], ◌∷◌, Option, Some, None, is_none, unwrap_or, refl, sym, ap, ◌∙◌}
 use Rattle.std.proofs.Common.{subst, arith}
@@ -49,14 +49,14 @@ use Rattle.pt_model.proofs.Readings.{stood-call}
 use Rattle.pt_model.proofs.Opens.{open-sealed, left, was_open}
 use Rattle.pt_model.proofs.Seats.{move-sealed, seat, exists_as, one_class, housed}
 
--- the waits that stand unmoved at one condition wait with one mutex
+-- all unmoved waits at a condition wait with one mutex
 abbrev pub OneMutex : History → Type 0
 OneMutex h =
     (v w : WaitingCall) → In v (open_calls h) → In w (open_calls h) → (m k : ℕ) → v.role ≡ ForCond m
     → w.role ≡ ForCond k → moved h v.place ≡ None → moved h w.place ≡ None → v.object ≡ w.object
     → m ≡ k
 
--- only a wait that isn't moved sits at a condition
+-- only an unmoved wait is at a condition
 cond_seat : (role : Role) (o : Option Move) → seat role o ≡ CondClass → (j : ℕ)
     × ((role ≡ ForCond j) × (o ≡ None))
 cond_seat (ForCond j) None e = (j, (refl, refl))
@@ -66,13 +66,13 @@ cond_seat ForRead o e = absurd cc
 cond_seat ForWrite o e = absurd cc
 cond_seat ForBarrier o e = absurd cc
 
--- an unmoved wait stands where it came
+-- an unmoved wait waits at the object that it came to
 pub stays_put : (h : History) (w : WaitingCall) (m : ℕ) → w.role ≡ ForCond m
     → moved h w.place ≡ None
     → at_object h w ≡ w.object
 stays_put h w m r n = rw (r, n) refl
 
--- what stands at a condition is a wait that isn't moved
+-- a call that waits at a condition is an unmoved wait
 pub at_cond : (h : History) (q : ℕ) (w : WaitingCall) → Follows h → exists_as h CondClass q ≡ true
     → In w (waiting_at h q) → In w (open_calls h)
     × ((m : ℕ) × ((w.role ≡ ForCond m) × ((moved h w.place ≡ None) × (w.object ≡ q))))
@@ -96,7 +96,7 @@ at_cond h q w f t i = (there.0, (seated.0, (seated.1.0, (seated.1.1, object))))
     object : w.object ≡ q
     object = sym (stays_put h w seated.0 seated.1.0 seated.1.1) ∙ here
 
--- a wait stands among the calls at its condition, until it is moved
+-- an unmoved wait is among the calls that wait at its condition
 pub stands_there : (h : History) (q : ℕ) (w : WaitingCall) (m : ℕ) → In w (open_calls h)
     → w.role ≡ ForCond m → moved h w.place ≡ None → w.object ≡ q → In w (waiting_at h q)
 stands_there h q w m i r n e =
@@ -104,7 +104,7 @@ stands_there h q w m i r n e =
     let here : (at_object h w == q) ≡ true = grind (arith, nat_tests) in
     filter-in (λ (u : WaitingCall). at_object h u == q) (open_calls h) w i here
 
--- where an unmoved wait came, there is a condition
+-- the object that an unmoved wait came to is a condition
 cond_there : (h : History) (w : WaitingCall) (m : ℕ) → Follows h → In w (open_calls h)
     → w.role ≡ ForCond m → moved h w.place ≡ None → exists_as h CondClass w.object ≡ true
 cond_there h w m f i r n =
@@ -113,7 +113,7 @@ cond_there h w m f i r n =
     ap (exists_as h CondClass) (sym (stays_put h w m r n))
     ∙ (ap (λ s. exists_as h s (at_object h w)) (sym class) ∙ sits)
 
--- the mutex of a condition is that of any wait that stands there
+-- the mutex of a condition is that of any unmoved wait there
 bound_by_any : (h : History) → Follows h → OneMutex h → (q : ℕ) (w : WaitingCall) (m : ℕ)
     → In w (open_calls h) → w.object ≡ q → w.role ≡ ForCond m → moved h w.place ≡ None
     → bound_by (waiting_at h q) ≡ Some m
@@ -132,13 +132,13 @@ bound_by_any h f o q w m i e r n =
         ap mutex_awaited p.1.1.0
         ∙ ap Some (o x w p.0 i p.1.0 m p.1.1.0 r p.1.1.1.0 n (p.1.1.1.1 ∙ sym e))
 
--- what stays unmoved was so before
+-- a wait that is unmoved after an entry was unmoved before it
 unmoved : (at : ℕ) (x : Option Cause) (before : Option Move) → move_or at x before ≡ None → before
     ≡ None
 unmoved at None before e = e
 unmoved at (Some x) before e = absurd cc
 
--- a call leaves one waiting at most
+-- a call leaves at most one call waiting
 one_left : (E : Effect) (v w : WaitingCall) → In v (left_by E) → In w (left_by E) → v ≡ w
 one_left (Waits u) v w (inl i) (inl j) = i ∙ sym j
 one_left (Waits u) v w (inl i) (inr j) = absurd j
@@ -152,7 +152,7 @@ one_left (Mends m) v w i j = absurd i
 one_left (Returns r) v w i j = absurd i
 one_left (Wakes n all) v w i j = absurd i
 
--- a wait is left waiting only if its condition has no mutex or the same
+-- a wait is left waiting only if its condition has no mutex or the same one
 wait_allowed : (h : History) (c : ℕ) (d : Option Timespec) (o p : Option ℕ)
     → reply (on o (λ q. on p (λ m. awaits_verdict h c q m d))) ≡ None
     → is_elsewhere (bound_by (waiting_at h (unwrap_or o 0))) (unwrap_or p 0) ≡ false
@@ -168,13 +168,13 @@ wait_allowed h c d (Some q) (Some m) e =
     go false true x e = absurd cc
     go false false x e = refl
 
--- a call for a lock is no wait
+-- a call for a lock is not a wait
 no_wait : (lock_kind : LockKind) (k : ℕ) → role_needed lock_kind ≡ ForCond k → ⊥
 no_wait MutexLock k e = cc
 no_wait ReadLock k e = cc
 no_wait WriteLock k e = cc
 
--- the same of the call that an operation leaves waiting
+-- the same for the call that an operation leaves waiting
 wait_left : (h : History) (c : ℕ) (z : Clock) (d : Operation)
     → reply (operation_verdict h c d) ≡ None
     → (w : WaitingCall) → In w (stood_by_operation h c z d) → (k : ℕ) → w.role ≡ ForCond k
@@ -202,14 +202,14 @@ wait_left h c z (Rwunlocks n) e w i k r = absurd i
 wait_left h c z (Signals n) e w i k r = absurd i
 wait_left h c z (Broadcasts n) e w i k r = absurd i
 
--- and of the one that a call does
+-- the same for the call that a call leaves waiting
 wait_new : (h : History) (c : ℕ) (call : Asked) (r : Option Outcome) → reply (verdict h c call) ≡ r
     → (w : WaitingCall) → In w (stood_by h (Call c call r)) → (k : ℕ) → w.role ≡ ForCond k
     → is_elsewhere (bound_by (waiting_at h w.object)) k ≡ false
 wait_new h c call None e w i k r = wait_left h c (clock_of call) (operation call) e w i k r
 wait_new h c call (Some x) e w i k r = absurd i
 
--- what an entry leaves waiting is one call
+-- an entry leaves at most one call waiting
 left_one : (h : History) (e : Entry) → Step h e → (v w : WaitingCall) → In v (left h e)
     → In w (left h e) → v ≡ w
 left_one h _ (calls c call n a o) v w i j =
@@ -222,7 +222,7 @@ left_one h _ (trips u s k t) v w i j = absurd i
 left_one h _ (yields m s t) v w i j = absurd i
 left_one h _ (expires u s k t) v w i j = absurd i
 
--- and if it is a wait, it has the mutex of its condition
+-- if that is a wait, it has the mutex of its condition
 left_bound : (h : History) (e : Entry) → Step h e → (w : WaitingCall) → In w (left h e) → (k : ℕ)
     → w.role ≡ ForCond k → is_elsewhere (bound_by (waiting_at h w.object)) k ≡ false
 left_bound h _ (calls c call n a o) w i k r =
@@ -237,7 +237,7 @@ left_bound h _ (trips u s j t) w i k r = absurd i
 left_bound h _ (yields m s t) w i k r = absurd i
 left_bound h _ (expires u s j t) w i k r = absurd i
 
--- a new wait has the mutex of those that stand there
+-- a new wait has the mutex of the unmoved waits at its condition
 joins_bound : (h : History) (e : Entry) → Follows h → OneMutex h → Step h e → (v w : WaitingCall)
     → In v (open_calls h) → In w (left h e) → (m k : ℕ) → v.role ≡ ForCond m → w.role ≡ ForCond k
     → moved h v.place ≡ None → v.object ≡ w.object → m ≡ k
@@ -247,7 +247,7 @@ joins_bound h e f o s v w i j m k r t n same =
     ap (λ b. is_elsewhere b k) (sym bound) ∙ left_bound h e s w j k t in
     grind (arith, nat_tests)
 
--- each entry keeps it so
+-- each entry preserves this
 pub OneMutex-step : (h : History) (e : Entry) → Follows h → OneMutex h → Step h e → OneMutex (h ▷ e)
 OneMutex-step h e f o s = λ v w i j m k r t x y same.
     go v w m k r t (before v x) (before w y) same (was_open h e f s v i) (was_open h e f s w j)
@@ -267,7 +267,7 @@ OneMutex-step h e f o s = λ v w i j m k r t x y same.
         let both : ForCond m ≡ ForCond k = sym r ∙ (role ∙ t) in
         cc
 
--- the waits that stand unmoved at one condition wait with one mutex
+-- all unmoved waits at a condition wait with one mutex
 pub one-mutex : (h : History) → Follows h → OneMutex h
 one-mutex h f =
     by_steps OneMutex (λ v w i j m k r t x y same. absurd i) OneMutex-step
@@ -276,13 +276,13 @@ one-mutex h f =
     (sym (move-sealed h v (open-sealed h v i)) ∙ x)
     (sym (move-sealed h w (open-sealed h w j)) ∙ y) same) h f
 
--- a condition is bound to the mutex of any wait that stands at it
+-- a condition is bound to the mutex of any unmoved wait there
 pub bound-any : (h : History) → Follows h → (q : ℕ) (w : WaitingCall) (m : ℕ) → In w (open_calls h)
     → w.object ≡ q → w.role ≡ ForCond m → moved h w.place ≡ None → bound_by (waiting_at h q)
     ≡ Some m
 bound-any h f q w m i e r n = bound_by_any h f (one-mutex h f) q w m i e r n
 
--- a condition at which no wait stands is bound to none
+-- a condition with no unmoved wait is bound to no mutex
 pub bound-none : (h : History) → Follows h → (q : ℕ) → kind_of h q ≡ Some Cond
     → ((w : WaitingCall) → In w (open_calls h)
     → (is_wait w.role && (is_none (moved h w.place) && (w.object == q))) ≡ false)

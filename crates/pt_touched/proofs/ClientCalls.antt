@@ -13,7 +13,7 @@ use Rattle.pt_model.proofs.OneEach.{one_each}
 use Rattle.pt_touched.specs.Candidates.{open_call_if}
 use Rattle.pt_touched.specs.Touched.{waiting_if}
 
--- the first call of a client that has one
+-- the first call of a client that has at least one
 place_of-first : (ws : List WaitingCall) (c : ℕ) (v : WaitingCall) → In v ws → v.client ≡ c
     → (u : WaitingCall) × (In u ws × ((u.client ≡ c) × (place_of ws c ≡ Some u.place)))
 place_of-first [] c v i e = absurd i
@@ -52,7 +52,7 @@ place_of-found (x ∷ xs) c j e = go (x.client == c) refl e (place_of-found xs c
         (x, (inl refl, (own, at)))
     go false eb k ih = let p = ih k in (p.0, (inr p.1.0, p.1.1))
 
--- an open call is that of its client
+-- an open call is found by its client
 pub open_call-found : (h : History) → Follows h → (w : WaitingCall) (c : ℕ) → In w (open_calls h)
     → w.client ≡ c → open_call_if h (Some c) ≡ Some w
 open_call-found h f w c i e =
@@ -60,7 +60,7 @@ open_call-found h f w c i e =
     let same : u.0 ≡ w = one_each h f u.0 w u.1.0 i (u.1.1.0 ∙ sym e) in
     ap (waiting_if h) u.1.1.1 ∙ (found_open h f u.0 u.1.0 ∙ ap Some same)
 
--- and the call of a client is open
+-- a call that is found by a client is open, and is the client's
 pub open_call-is : (h : History) → Follows h → (w : WaitingCall) (c : ℕ)
     → open_call_if h (Some c) ≡ Some w → In w (open_calls h) × (w.client ≡ c)
 open_call-is h f w c e = go (open_place h c) refl e

@@ -41,7 +41,7 @@ use Rattle.pt_model.proofs.Services.{none-served, or_true, or_left_true}
 use Rattle.pt_touched.specs.Candidates.{entering, is_read, reads_again}
 use Rattle.pt_touched.specs.TouchLaws.{HasJustCome}
 
--- an open call for a read lock that its client holds is of the client whose call came last
+-- an open call for a read lock that its client holds belongs to the client whose call came last
 abbrev pub AllCome : History → Type 0
 AllCome h =
     (w : WaitingCall) → In w (open_calls h) → w.role ≡ ForRead
@@ -54,7 +54,7 @@ read_role ForWrite e = absurd cc
 read_role ForBarrier e = absurd cc
 read_role (ForCond m) e = absurd cc
 
--- a reader that holds the lock may have it again
+-- a reader that holds a lock may have it again
 pub holder_served : (h : History) → Follows h → (w : WaitingCall) → w.role ≡ ForRead
     → nat_lt 0 (reads h w.object w.client) ≡ true → is_served h w ≡ true
 holder_served h f w r t =
@@ -72,12 +72,12 @@ holder_served h f w r t =
         first_below-passes (place h) (λ d. writes h w.object d) c e in
         absurd (false≢true (sym (alone h f w.object c w.client wrote).1 ∙ t))
 
--- so at rest none does
+-- so at rest no open call is for a read lock that its client holds
 rest : (h : History) → Follows h → forced h ≡ None → (w : WaitingCall) → In w (open_calls h)
     → w.role ≡ ForRead → nat_lt 0 (reads h w.object w.client) ≡ true → ⊥
 rest h f n w i r t = false≢true (sym (none-served h n w i) ∙ holder_served h f w r t)
 
--- an effect that leaves a call waiting is this call's
+-- an effect that leaves a call waiting is that this call waits
 waits_new : (E : Effect) (w : WaitingCall) → In w (left_by E) → E ≡ Waits w
 waits_new (Waits v) w (inl e) = ap Waits (sym e)
 waits_new (Waits v) w (inr i) = absurd i
@@ -90,7 +90,7 @@ waits_new (Mends m) w i = absurd i
 waits_new (Returns r) w i = absurd i
 waits_new (Wakes n all) w i = absurd i
 
--- and that call is the caller's
+-- such a call is the caller's own
 new_client : (h : History) (c : ℕ) (E : Effect) → Allowed h c E → (w : WaitingCall)
     → In w (left_by E) → w.client ≡ c
 new_client h c E a w i =
@@ -166,14 +166,14 @@ come-step h _ f (grants v s j g) w r ih t now (inl i) = go (v.client == w.client
         (ap (λ b. (v.object == w.object) && b) e ∙ nothing (v.object == w.object))))) ∙ t)
 
 module _ (h g : History) (a : Agree h g) (f : Follows h) where
-  -- two histories that agree have the same read locks where a reader waits
+  -- two histories that agree have the same read locks at the object of a waiting reader
   reads-alike : (w : WaitingCall) → In w (open_calls h) → w.role ≡ ForRead
       → reads h w.object w.client ≡ reads g w.object w.client
   reads-alike w i r =
       a.readers w.object w.client
       (subst (λ (role : Role). HousedBy h role (moved h w.place) w.object) r (housed h f w i)).0
 
-  -- one client alone reads again in both
+  -- in both, all calls that ask again for a read lock belong to one client
   come-alike : AllCome h → (w : WaitingCall) → In w (open_calls g) → w.role ≡ ForRead
       → nat_lt 0 (reads g w.object w.client) ≡ true
       → client_at (least (precedes g) (filter (reads_again g) (open_calls g))) ≡ Some w.client

@@ -1,9 +1,10 @@
--- BoundMutex: conditions: all waits that stand at one, and aren't moved, wait with one mutex
+-- BoundMutex: all unmoved waits at a condition wait with one mutex
 pub mod BoundMutex
 -- ClientCalls: the open call of a client, found by its client
 pub mod ClientCalls
 -- What an entry touches:
--- Unchanged: if nothing changed at an object, a call there can be served no more than before
+-- Unchanged: if nothing changed at an object, a call that waits there may be served only if it
+-- could be before
 pub mod Unchanged
 -- WokenWaits: which waits a call wakes, and that a wait is served only after it was moved
 pub mod WokenWaits
@@ -15,14 +16,16 @@ pub mod TouchedGrants
 pub mod TouchedExpiries
 -- TouchedEntries: each entry touches one object
 pub mod TouchedEntries
--- TouchedServices: all that may be served waits at one object, so the next to serve is its first
+-- TouchedServices: all calls that may be served wait at one object, so the next to serve is its
+-- first
 pub mod TouchedServices
 -- What is served at an object:
 -- JustCome: a client asks again for a read lock that it holds only with the call that came last
 pub mod JustCome
--- ServedFirsts: at a mutex, a condition and a barrier, by the first call that waits there
+-- ServedFirsts: which call is served at a mutex, a condition or a barrier, given the first call
+-- that waits there
 pub mod ServedFirsts
--- ServedLocks: at a read-write lock, by the first call that waits there
+-- ServedLocks: which call is served at a read-write lock, given the first call that waits there
 pub mod ServedLocks
 -- Candidates: the call that is served at an object is its candidate
 pub mod Candidates

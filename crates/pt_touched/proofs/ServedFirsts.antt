@@ -1,4 +1,4 @@
--- Which call is served at a mutex, a condition or a barrier, by the first that waits there.
+-- Which call is served at a mutex, a condition or a barrier, given the first call that waits there.
 use Rattle.std.proofs.Common.{◌≡◌, ℕ, Bool, true, false, not, ◌&&◌, ◌||◌, ◌==◌, length, Option}
 use Rattle.std.proofs.Common.{Some, None, is_some, is_none, refl, sym, ap, ◌∙◌, subst, arith}
 use Rattle.std.proofs.Common.{filter}
@@ -34,7 +34,7 @@ use Rattle.pt_touched.specs.Candidates.{first_at, served_at}
 use Rattle.pt_touched.proofs.WokenWaits.{unserved}
 
 module _ (h : History) (f : Follows h) (o : ℕ) where
-  -- what waits there
+  -- a call that waits there
   pub there : (w : WaitingCall) → In w (waiting_at h o) → In w (open_calls h) × (at_object h w ≡ o)
   there w i =
       let p = In-filter (λ (u : WaitingCall). at_object h u == o) (open_calls h) w i in
@@ -42,7 +42,7 @@ module _ (h : History) (f : Follows h) (o : ℕ) where
       let t : (at_object h w == o) ≡ true = p.1 in grind (arith, nat_tests) in
       (p.0, at)
 
-  -- if the first call can be served, it is the one that is
+  -- if the first call can be served, it is the one that is served
   pub first_serves : (u : WaitingCall) → first_at h o ≡ Some u → is_served h u ≡ true
       → served_at h o
       ≡ Some u
@@ -51,7 +51,7 @@ module _ (h : History) (f : Follows h) (o : ℕ) where
       (waiting_at h o) u
       (ap (least (precedes h)) (filter-all (λ w. true) (waiting_at h o) (λ w i. refl)) ∙ e) t
 
-  -- if no call can be served there, none is
+  -- if no call can be served there, none is served
   pub none_serves : ((w : WaitingCall) → In w (open_calls h) → at_object h w ≡ o → is_served h w
       ≡ true → ⊥) → served_at h o ≡ None
   none_serves none =
@@ -59,7 +59,7 @@ module _ (h : History) (f : Follows h) (o : ℕ) where
       (λ w i. let p = In-filter (is_served h) (waiting_at h o) w i in
       let q = there w p.0 in none w q.0 q.1 p.1)
 
-  -- so it is if no call waits there, or the first can be served
+  -- if the first call can be served, or there is none, what is served is the first
   pub first_decides : ((u : WaitingCall) → first_at h o ≡ Some u → is_served h u ≡ true)
       → served_at h o ≡ first_at h o
   first_decides each = go (first_at h o) refl
@@ -71,7 +71,7 @@ module _ (h : History) (f : Follows h) (o : ℕ) where
           (let yes : (at_object h w == o) ≡ true = grind (arith, nat_tests) in yes)))
       go (Some u) e = first_serves u e (each u e)
 
-  -- the first is least
+  -- the first call is the least
   pub first_least : (u : WaitingCall) → first_at h o ≡ Some u → is_least h u ≡ true
   first_least u e =
       in-all (λ v. not (precedes h v u)) (waiting_at h (at_object h u))
@@ -90,13 +90,13 @@ module _ (h : History) (f : Follows h) (o : ℕ) where
       → object_by role (moved h w.place) w.object ≡ o
   at_role w role r at = sym (ap (λ x. object_by x (moved h w.place) w.object) r) ∙ at
 
-  -- at a condition none is served
+  -- at a condition no call is served
   pub cond-none : exists_as h CondClass o ≡ true → served_at h o ≡ None
   cond-none k =
       none_serves (λ w i at t. unserved h w w.role (moved h w.place) refl refl
       (sits CondClass k w i at) t)
 
-  -- at a mutex that is lost or has no owner the first call is served
+  -- at a mutex that is lost or has no owner, the first call is served
   pub mutex-first : exists_as h MutexClass o ≡ true
       → (is_lost (consistency h o) || is_none (owner h o)) ≡ true → served_at h o ≡ first_at h o
   mutex-first k free = first_decides each
@@ -139,8 +139,8 @@ module _ (h : History) (f : Follows h) (o : ℕ) where
           go ForWrite x r m s = absurd cc
           go ForBarrier x r m s = absurd cc
 
-  -- at one that has an owner and isn't lost, only a moved wait of the owner is, and only if it is
-  -- RECURSIVE
+  -- at a mutex that has an owner and is not lost, only a moved wait of the owner is served, and
+  -- only if the mutex is RECURSIVE
   pub mutex-owned : (c : ℕ) → exists_as h MutexClass o ≡ true → is_lost (consistency h o) ≡ false
       → owner h o ≡ Some c → (w : WaitingCall) → In w (open_calls h) → at_object h w ≡ o
       → is_served h w ≡ true → (w.client ≡ c)
@@ -194,7 +194,7 @@ module _ (h : History) (f : Follows h) (o : ℕ) where
       go ForWrite x r m s = absurd cc
       go ForBarrier x r m s = absurd cc
 
-  -- the only call that can be served there is the one that is
+  -- the only call that can be served there is the one that is served
   pub only_serves : (w : WaitingCall) → In w (open_calls h) → at_object h w ≡ o → is_served h w
       ≡ true
       → ((v : WaitingCall) → In v (open_calls h) → at_object h v ≡ o → is_served h v ≡ true → v ≡ w)
@@ -214,7 +214,7 @@ module _ (h : History) (f : Follows h) (o : ℕ) where
           let q = there v p.0 in
           ap Some (one v q.0 q.1 p.1)
 
-  -- at a full barrier the first call is served, and at another none
+  -- at a full barrier the first call is served, and at any other barrier none
   barrier_at : exists_as h BarrierClass o ≡ true → (w : WaitingCall) → In w (open_calls h)
       → at_object h w ≡ o → is_served h w
       ≡ (length (at_barrier o (open_calls h)) == barrier_count (kind_of h o))

@@ -1,4 +1,4 @@
--- Which call is served at a read-write lock, by the first that waits there.
+-- Which call is served at a read-write lock, given the first call that waits there.
 use Rattle.std.proofs.Common.{◌≡◌, ℕ, Bool, true, false, not, ◌&&◌, ◌||◌, ◌==◌, nat_lt, nat_le}
 use Rattle.std.proofs.Common.{length, ◌⊎◌, inl, inr, Option, Some, None, is_some, is_none, refl}
 use Rattle.std.proofs.Common.{sym, ap, ◌∙◌, subst, arith}
@@ -83,7 +83,7 @@ module _ (h : History) (f : Follows h) (o : ℕ) where
           two None e = cc
           two (Some v) e = cc
 
-  -- at a lock that is written none is served
+  -- at a lock that is held for writing, no call is served
   pub lock-written : exists_as h RwlockClass o ≡ true → is_some (writer h o) ≡ true
       → served_at h o ≡ None
   lock-written k wrote = none_serves h f o (λ w i at t. go w (lock-served k w i at t))
@@ -99,7 +99,7 @@ module _ (h : History) (f : Follows h) (o : ℕ) where
       go w (inl p) = held (is_some (writer h o)) _ wrote p.1
       go w (inr p) = held (is_some (writer h o)) _ wrote p.1
 
-  -- a writer of a reader's priority or a higher one goes before it
+  -- a writer precedes a reader of the same or a lower priority
   writer_before : (x v : WaitingCall) → x.role ≡ ForWrite → v.role ≡ ForRead
       → nat_le v.priority x.priority ≡ true → precedes h x v ≡ true
   writer_before x v q r le =
@@ -121,12 +121,12 @@ module _ (h : History) (f : Follows h) (o : ℕ) where
   writes_role ForBarrier e = absurd cc
   writes_role (ForCond m) e = absurd cc
 
-  -- no call goes before the first
+  -- no call precedes the first
   none_before : (u : WaitingCall) → first_at h o ≡ Some u → (v : WaitingCall)
       → In v (waiting_at h o) → precedes h v u ≡ false
   none_before u e v i = least-first (precedes h) (precedes-order h) (waiting_at h o) u e v i
 
-  -- a reader that is first isn't held back
+  -- a reader that is first is not held back
   unblocked : (u : WaitingCall) → first_at h o ≡ Some u → u.role ≡ ForRead
       → is_blocked h o u.priority ≡ false
   unblocked u e r =
@@ -140,7 +140,7 @@ module _ (h : History) (f : Follows h) (o : ℕ) where
   unsome None e = refl
   unsome (Some n) e = absurd cc
 
-  -- at a lock that nobody writes a reader that is first is served
+  -- at a lock that is not held for writing, a reader that is first is served
   pub lock-reader : (u : WaitingCall) → first_at h o ≡ Some u → u.role ≡ ForRead
       → is_none (writer h o) ≡ true → is_served h u ≡ true
   lock-reader u e r n =
@@ -156,7 +156,7 @@ module _ (h : History) (f : Follows h) (o : ℕ) where
       (or_left_true (not (is_blocked h o u.priority)) (nat_lt 0 (reads h o u.client))
       (ap not (unblocked u e r)))))
 
-  -- and at one that nobody holds, whoever is first
+  -- at a lock that nobody holds, the first call is served
   pub lock-free : exists_as h RwlockClass o ≡ true → is_none (writer h o) ≡ true
       → is_none (reader h o) ≡ true → served_at h o ≡ first_at h o
   lock-free k nw nr = first_decides h f o each
@@ -184,7 +184,7 @@ module _ (h : History) (f : Follows h) (o : ℕ) where
           go (ForCond n) None r m s = absurd cc
           go (ForCond n) (Some v) r m s = absurd cc
 
-  -- if readers hold it and a writer is first, only readers that hold it are served
+  -- if readers hold a lock and a writer is first, only readers that hold it already are served
   pub lock-held : exists_as h RwlockClass o ≡ true → is_some (reader h o) ≡ true → (u : WaitingCall)
       → first_at h o ≡ Some u → u.role ≡ ForWrite → (w : WaitingCall) → In w (open_calls h)
       → at_object h w ≡ o → is_served h w ≡ true → (w.role ≡ ForRead)

@@ -1,4 +1,5 @@
--- What a call touches: one that may be served after it, and waits elsewhere, could be before.
+-- What a call touches: another that may be served after it, and waits elsewhere, could be served
+-- before it.
 use Rattle.std.proofs.Common.{◌≡◌, ℕ, Bool, true, false, cond, ◌&&◌, ◌==◌, ◌⊎◌, inl, inr, List, []}
 use Rattle.std.proofs.Common.{◌∷◌, ◌++◌, Option, Some, None, refl, sym, ap, ◌∙◌, subst, arith}
 use Rattle.std.proofs.Common.{append-nil}
@@ -60,7 +61,7 @@ use Rattle.pt_touched.proofs.WokenWaits.{cond_beside, stands_below, unserved, wa
 use Rattle.pt_touched.proofs.Unchanged.{Quiet, Stays, writer-same, reader-same, stays-all}
 use Rattle.pt_touched.proofs.Unchanged.{served-before}
 
--- what an effect touches
+-- the object that an effect touches
 abbrev pub touched_effect : History → Effect → Option ℕ
 touched_effect h (Frees m) = Some m
 touched_effect h (Returns r) = Some r
@@ -78,7 +79,7 @@ upon_some : (h : History) (o : Option ℕ) (k : ℕ → Effect)
 upon_some h None k e = refl
 upon_some h (Some x) k e = sym (e x)
 
--- what a call touches is what its effect does
+-- a call touches the object that its effect touches
 pub touched-call : (h : History) (c : ℕ) (call : Asked) (r : Option Outcome)
     → touched_by h (Call c call r) ≡ touched_effect h (effect h c call r)
 touched-call h c call None = waits (clock_of call) (operation call)
@@ -255,7 +256,7 @@ module _ (h : History) (c : ℕ) (call : Asked) (f : Follows h) (alive : is_aliv
   at_false : (k o q : ℕ) → (k == o) ≡ false → o ≡ q → (k == q) ≡ false
   at_false k o q e same = ap (λ x. k == x) (sym same) ∙ e
 
-  -- a new call is served at its goal, if at all
+  -- a new call is served only at its goal
   fresh_call : (u : WaitingCall) → effect h c call (reply (verdict h c call)) ≡ Waits u
       → Allowed h c (Waits u) → (w : WaitingCall) → w ≡ u → is_served g w ≡ true
       → (goal u.role u.object == at_object g w) ≡ false → ⊥
@@ -380,7 +381,8 @@ module _ (h : History) (c : ℕ) (call : Asked) (f : Follows h) (alive : is_aliv
           old (Waits u) e a w k (awaited_goal u.role u.object (at_object h w) out) refl
           (stays_waits u e a (at_object h w) out) t
 
-  -- a call that may be served after a call, and waits at none that this touches, could be before
+  -- a call that may be served after another, and does not wait at what that touches, could be
+  -- served before
   pub call-aside : (w : WaitingCall) → In w (open_calls g) → is_served g w ≡ true
       → is_number (touched_by h (Call c call (reply (verdict h c call)))) (at_object g w) ≡ false
       → WasServed h g w

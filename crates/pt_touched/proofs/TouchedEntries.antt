@@ -1,4 +1,5 @@
--- A call that may be served after an entry waits at what the entry touches, or could be before.
+-- A call that may be served after an entry waits at what the entry touches, or could be served
+-- before.
 use Rattle.std.proofs.Common.{◌≡◌, ℕ, Bool, true, false, cond, not, ◌==◌, nat_lt, ◌⊎◌, inl, inr}
 use Rattle.std.proofs.Common.{List, Option, Some, None, refl, sym, ap, ◌∙◌, subst, arith}
 use Rattle.std.proofs.lemmas.Bool.Decides.{nat_tests}
@@ -79,7 +80,7 @@ death_aside h c f s w i t k =
         absurd (itself (touched_by h (Death c)) (at_object h w) (at_object h v)
         (death-touched h c v f j own) at k)
 
--- what waits at a barrier's object is an arrival
+-- a call that waits at the same object as an arrival is an arrival too
 at_full : (h : History) → Follows h → (u w : WaitingCall) (b : ℕ) → In u (open_calls h)
     → In w (open_calls h) → stands_at_barrier b u ≡ true → at_object h u ≡ at_object h w
     → stands_at_barrier b w ≡ true
@@ -138,7 +139,7 @@ trip_aside h b f s w i t =
     other old away u j at true e =
         absurd (false≢true (sym (ap not (at_full h f u w b j old e at)) ∙ away))
 
--- and no call is left there
+-- no call remains there
 pub trip_leaves : (h : History) (b : ℕ) → Follows h → (v w : WaitingCall) → In v (open_calls h)
     → stands_at_barrier b v ≡ true → In w (open_calls (h ▷ Trip b))
     → at_object h v ≡ at_object h w → ⊥
@@ -164,7 +165,8 @@ yield_aside h m f w i t k =
           (stays-all h (h ▷ Yield m) (at_object h w) (open-yield h m) (λ v j at. refl)) t,
     )
 
--- a call that may be served after an entry, and waits at none that this touches, could be before
+-- a call that may be served after an entry, and does not wait at what the entry touches, could be
+-- served before
 aside : (h : History) (e : Entry) → Follows h → Step h e → (w : WaitingCall)
     → In w (open_calls (h ▷ e)) → is_served (h ▷ e) w ≡ true
     → is_number (touched_by h e) (at_object (h ▷ e) w) ≡ false → WasServed h (h ▷ e) w

@@ -1,5 +1,5 @@
--- What an Expire touches: a call that may be served after it, and waits elsewhere, could be
--- before.
+-- What an Expire touches: a call that may be served after it, and waits elsewhere, could be served
+-- before it.
 use Rattle.std.proofs.Common.{◌≡◌, ℕ, Bool, true, false, not, ◌&&◌, ◌||◌, ◌==◌, Option, Some, None}
 use Rattle.std.proofs.Common.{is_some, refl, sym, ap, ◌∙◌, arith}
 use Rattle.std.proofs.lemmas.Bool.Decides.{nat_tests}
@@ -48,13 +48,13 @@ module _ (h : History) (v : WaitingCall) (f : Follows h) (s : Step h (Expire v.p
     touched : touched_by h (Expire v.place) ≡ Some (goal v.role v.object)
     touched = ap goal_if (found_open h f v l)
 
-    -- another call isn't moved
+    -- no other call is moved
     others : (j : ℕ) → (v.place == j) ≡ false → moved late j ≡ moved h j
     others j e =
         moved-expire h v f l j
         ∙ ap (λ b. move_or (place h) (cause_by_expiry b (is_wait v.role)) (moved h j)) e
 
-    -- nor is one that is no wait
+    -- a call that is not a wait is not moved either
     no_waits : is_wait v.role ≡ false → (j : ℕ) → moved late j ≡ moved h j
     no_waits e j =
         moved-expire h v f l j

@@ -1,4 +1,5 @@
--- What a Grant touches: a call that may be served after it, and waits elsewhere, could be before.
+-- What a Grant touches: a call that may be served after it, and waits elsewhere, could be served
+-- before it.
 use Rattle.std.proofs.Common.{◌≡◌, ℕ, suc, Bool, true, false, cond, not, ◌&&◌, ◌||◌, ◌==◌, nat_lt}
 use Rattle.std.proofs.Common.{Option, Some, None, is_some, refl, sym, ap, ◌∙◌, arith}
 use Rattle.std.proofs.lemmas.Bool.Decides.{nat_tests}
@@ -30,7 +31,7 @@ use Rattle.pt_touched.specs.Touched.{object_if, touched_by}
 use Rattle.pt_touched.proofs.Unchanged.{Quiet, itself, was, quiet-entry, stays-filter}
 use Rattle.pt_touched.proofs.Unchanged.{served-before}
 
--- what is granted waits at what it is for
+-- a call that is granted waits at the object that it is for
 away : (h : History) (v : WaitingCall) (role : Role) (o : ℕ) → v.role ≡ role
     → is_grantable_as h v role ≡ true → (at_object h v == o) ≡ false
     → (is_number (mutex_of role v.object) o ≡ false)

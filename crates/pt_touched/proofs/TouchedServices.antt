@@ -1,4 +1,5 @@
--- One object is touched at a time, and the call that is served is the least served one there.
+-- One object is touched at a time, and the call that is served is the least there that may be
+-- served.
 use Rattle.std.proofs.Common.{◌≡◌, ℕ, Bool, true, false, cond, ◌&&◌, ◌||◌, ◌==◌, nat_lt, ◌⊎◌, inl}
 use Rattle.std.proofs.Common.{inr, List, [], ◌∷◌, Option, Some, None, refl, sym, ap, ◌∙◌, subst}
 use Rattle.std.proofs.Common.{arith, filter}
@@ -34,7 +35,7 @@ use Rattle.pt_touched.specs.Touched.{next_served, object_if, touched, touched_by
 use Rattle.pt_touched.proofs.TouchedEntries.{touches, trip_leaves}
 use Rattle.pt_touched.proofs.TouchedGrants.{grant_touched}
 
--- all that may be served wait at the object that is touched
+-- all calls that may be served wait at the object that is touched
 abbrev pub AllTouched : History → Type 0
 AllTouched h =
     (w : WaitingCall) → In w (open_calls h) → is_served h w ≡ true
@@ -70,7 +71,7 @@ no_expire j h w e = go (is_arrival w.role) e
     go true k = cc
     go false k = cc
 
--- after an entry before which none may be served
+-- an entry before which no call may be served
 at_rest : (h : History) (e : Entry)
     → ((w : WaitingCall) → In w (open_calls h) → is_served h w ≡ true → ⊥)
     → (w : WaitingCall) → (touched_by h e ≡ Some (at_object (h ▷ e) w)) ⊎ WasServed h (h ▷ e) w
@@ -82,7 +83,7 @@ pub quiet_rest : (h : History) → forced h ≡ None → (w : WaitingCall) → I
     → is_served h w ≡ true → ⊥
 quiet_rest h n w i t = false≢true (sym (none-served h n w i) ∙ t)
 
--- and none is served next
+-- at rest no call is served next
 pub next_none : (h : History) → forced h ≡ None → next_served h ≡ None
 next_none h n =
     none-least (is_served_before h) (filter (is_served h) (open_calls h))
@@ -105,7 +106,7 @@ served-complete h v g = go (is_grantable h v) (is_complete h v) g
     go true b e = refl
     go false b e = e
 
--- and stands there
+-- such a call waits at that barrier
 stands-complete : (h : History) (v : WaitingCall) → is_complete h v ≡ true
     → stands_at_barrier v.object v ≡ true
 stands-complete h v g =
@@ -139,13 +140,13 @@ module _ (h g : History) (a : Agree h g) (f : Follows h) where
   served-alike : (w : WaitingCall) → In w (open_calls h) → is_served h w ≡ is_served g w
   served-alike w i = rw (grantable-alike h g a f w i, complete-alike h g a f w) refl
 
-  -- what may be served in one of two histories that agree may be in the other
+  -- a call that may be served in one of two histories that agree may be served in the other
   was_served : (w : WaitingCall) → In w (open_calls g) → is_served g w ≡ true → WasServed h g w
   was_served w i t =
       let old : In w (open_calls h) = subst (λ (ws : List WaitingCall). In w ws) (sym a.calls) i in
       (old, (served-alike w old ∙ t, object-alike h g a f w old))
 
-  -- and all of it at one object still
+  -- all such calls wait at the touched object there too
   touched-alike : AllTouched h → (w : WaitingCall) → In w (open_calls g) → is_served g w ≡ true
       → object_if g (next_served g) ≡ Some (at_object g w)
   touched-alike all w i t = go (next_served g) refl
@@ -171,7 +172,7 @@ are_touched h f =
     (λ h e f all s w i t. touched-step h e f s all w i t (touches h e f s w i t))
     (λ h f all. touched-alike h (Begin (seal h)) (seal_agrees h f) f all) h f
 
--- two orders that agree on a list have the same least
+-- two orders that agree on a list have the same least element
 least-same : {X : Type 0} (lt gt : X → X → Bool) (xs : List X)
     → ((x y : X) → In x xs → In y xs → lt x y ≡ gt x y) → least lt xs ≡ least gt xs
 least-same lt gt [] e = refl
@@ -184,7 +185,7 @@ least-same lt gt (x ∷ xs) e =
     go (Some y) eo =
         ap (λ b. cond b (Some y) (Some x)) (e y x (inr (least-in gt xs y eo)) (inl refl))
 
--- if nothing is touched no call is served
+-- if no object is touched, no call is served
 pub served-none : (h : History) → Follows h → touched h ≡ None
     → next_served h ≡ None
 served-none h f n =
@@ -193,7 +194,7 @@ served-none h f n =
     let some = are_touched h f w p.0 p.1 in
     let wrong : ◌≡◌ {A = Option ℕ} None (Some (at_object h w)) = sym n ∙ some in cc)
 
--- the call that is served is the one that is at the object that is touched
+-- the call that is served is the one that is served at the touched object
 pub served-touched : (h : History) (o : ℕ) → Follows h → touched h ≡ Some o
     → next_served h ≡ served_at h o
 served-touched h o f e =

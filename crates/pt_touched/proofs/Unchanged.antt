@@ -1,4 +1,5 @@
--- If nothing changed at an object, a call that waits there can be served no more than before.
+-- If nothing changed at an object, a call that waits there may be served only if it could be
+-- before.
 use Rattle.std.proofs.Common.{◌≡◌, ℕ, suc, Bool, true, false, not, ◌&&◌, ◌||◌, ◌==◌, nat_lt, ◌⊎◌}
 use Rattle.std.proofs.Common.{inl, inr, List, [], length, Option, Some, None, is_some, is_none}
 use Rattle.std.proofs.Common.{refl, sym, ap, ◌∙◌, subst, arith, filter}
@@ -30,7 +31,7 @@ use Rattle.pt_model.proofs.Opens.{stands_at_barrier, left, was_open}
 use Rattle.pt_model.proofs.Holders.{owner-same}
 use Rattle.pt_model.proofs.Services.{or_true, or_left_true}
 
--- what is known of an object is as before, for one client
+-- what is known of an object is unchanged, for one client
 pub record Quiet (h : History) (g : History) (o : ℕ) (c : ℕ) : Type 0 where
   pub owners : owner g o ≡ owner h o
   pub losses : is_lost (consistency g o) ≡ is_lost (consistency h o)
@@ -39,13 +40,13 @@ pub record Quiet (h : History) (g : History) (o : ℕ) (c : ℕ) : Type 0 where
   pub readers : reader g o ≡ reader h o
   pub counts : reads g o c ≡ reads h o c
 
--- all that waited at an object still do, with the same moves, and no more arrive at a barrier
+-- all calls that waited at an object still do, with the same moves, and no more arrive at a barrier
 pub record Stays (h : History) (g : History) (o : ℕ) : Type 0 where
   pub stays : (v : WaitingCall) → In v (open_calls h) → at_object h v ≡ o → In v (open_calls g)
       × (moved g v.place ≡ moved h v.place)
   pub arrivals : at_barrier o (open_calls g) ≡ at_barrier o (open_calls h)
 
--- an entry that changes no client's write lock leaves it to its writer
+-- an entry that changes no client's write lock leaves the lock to its writer
 pub writer-same : (h : History) (e : Entry) (r : ℕ) → Follows h
     → ((c : ℕ) → writes (h ▷ e) r c ≡ writes h r c) → writer (h ▷ e) r ≡ writer h r
 writer-same h e r f same =
@@ -53,7 +54,7 @@ writer-same h e r f same =
     ∙ first_below-more (place h) (λ c. writes h r c)
     ((Unheld-follows h f).writers r (place h) (omega arith))
 
--- and so for readers
+-- the same for readers
 pub reader-same : (h : History) (e : Entry) (r : ℕ) → Follows h
     → ((c : ℕ) → reads (h ▷ e) r c ≡ reads h r c) → reader (h ▷ e) r ≡ reader h r
 reader-same h e r f same =
@@ -62,7 +63,7 @@ reader-same h e r f same =
     ∙ first_below-more (place h) (λ c. nat_lt 0 (reads h r c))
     (ap (nat_lt 0) ((Unheld-follows h f).readers r (place h) (omega arith)))
 
--- what an entry leaves of an object
+-- an entry after which what is known of an object is unchanged
 pub quiet-entry : (h : History) (e : Entry) (o c : ℕ) → Follows h
     → ((d : ℕ) → has (h ▷ e) o d ≡ has h o d)
     → is_lost (consistency (h ▷ e) o) ≡ is_lost (consistency h o) → kind_of (h ▷ e) o ≡ kind_of h o
@@ -78,7 +79,7 @@ quiet-entry h e o c f own lost kind w r =
       counts = r c;
     }
 
--- if no call at the object is taken away or moved
+-- if no call at the object is removed or moved
 pub stays-filter : (h g : History) (o : ℕ) (p : WaitingCall → Bool) → open_calls g
     ≡ filter p (open_calls h)
     → ((v : WaitingCall) → In v (open_calls h) → at_object h v ≡ o → (p v ≡ true) × (moved g v.place
@@ -118,7 +119,7 @@ stays-filter h g o p e each =
         no true = refl
         no false = refl
 
--- if no call is taken away
+-- if no call is removed, and none at the object is moved
 pub stays-all : (h g : History) (o : ℕ) → open_calls g ≡ open_calls h
     → ((v : WaitingCall) → In v (open_calls h) → at_object h v ≡ o → moved g v.place
     ≡ moved h v.place) → Stays h g o
@@ -150,7 +151,7 @@ module _ (h g : History) (w : WaitingCall) (i : In w (open_calls h)) where
     pub same_object : at_object h w ≡ at_object g w
     same_object = ap (λ x. object_by w.role x w.object) (sym same_move)
 
-    -- what waited beside it does so still
+    -- a call that waited beside it still does
     beside : (v : WaitingCall) → In v (waiting_at h o) → In v (waiting_at g o)
         × (moved g v.place ≡ moved h v.place)
     beside v j =
@@ -297,13 +298,13 @@ module _ (h g : History) (w : WaitingCall) (i : In w (open_calls h)) where
       same_object (at_object h w) refl s,
     )
 
--- what is touched is no other than itself
+-- the object that is touched is itself
 pub itself : (t : Option ℕ) (o q : ℕ) → t ≡ Some q → q ≡ o → is_number t o ≡ false → ⊥
 itself t o q e same k =
     let yes : (q == o) ≡ true = grind (arith, nat_tests) in
     false≢true (sym k ∙ (ap (λ x. is_number x o) e ∙ yes))
 
--- if an entry leaves none waiting, an open call was open before
+-- if an entry leaves no call waiting, an open call was open before it
 pub was : (h : History) (e : Entry) → Follows h → Step h e → left h e ≡ [] → (w : WaitingCall)
     → In w (open_calls (h ▷ e)) → In w (open_calls h)
 was h e f s none w i = go (was_open h e f s w i)

@@ -32,7 +32,7 @@ use Rattle.pt_model.proofs.Found.{one_open}
 use Rattle.pt_model.proofs.Moves.{has_place-part}
 use Rattle.pt_model.proofs.Seats.{seat, housed, one_class}
 
--- a wait that isn't moved is never served
+-- an unmoved wait is never served
 pub unserved : (g : History) (w : WaitingCall) (role : Role) (o : Option Move) → w.role ≡ role
     → moved g w.place ≡ o → seat role o ≡ CondClass → is_served g w ≡ true → ⊥
 unserved g w (ForCond m) None r e s t =
@@ -43,7 +43,7 @@ unserved g w ForRead o r e s t = cc
 unserved g w ForWrite o r e s t = cc
 unserved g w ForBarrier o r e s t = cc
 
--- what waits beside a wait that isn't moved is one too
+-- a call that waits beside an unmoved wait is one too
 pub cond_beside : (h : History) → Follows h → (v w : WaitingCall) → In v (open_calls h)
     → In w (open_calls h) → (m : ℕ) → v.role ≡ ForCond m → moved h v.place ≡ None → at_object h v
     ≡ at_object h w → seat w.role (moved h w.place) ≡ CondClass
@@ -54,7 +54,7 @@ cond_beside h f v w i j m r n at =
     (ap (λ q. is_class (kind_of h q) CondClass) (sym at)
     ∙ (ap (λ s. is_class (kind_of h (at_object h v)) s) (sym class) ∙ (housed h f v i).0))
 
--- the object of a call exists
+-- the object at which a call waits was made before
 pub stands_below : (h : History) → Follows h → (w : WaitingCall) → In w (open_calls h)
     → at_object h w < place h
 stands_below h f w i =
@@ -106,7 +106,7 @@ wakes h n false f w i x e =
         only true eb z = grind (arith, nat_tests)
         only false eb z = absurd cc
 
--- what is known of it
+-- what is known of such a wait
 pub waits_known : (h : History) (n : List ℕ) (q : ℕ) (w : WaitingCall) → find h n CondClass ≡ Some q
     → waits_at h (moved h) n w ≡ true → (m : ℕ) × ((w.role ≡ ForCond m)
     × ((moved h w.place ≡ None) × (w.object ≡ q)))

@@ -1,4 +1,5 @@
--- LaneLemmas: bytes that may all stand, by the empty mask of those that may not
+-- LaneLemmas: whether a name may contain all bytes of a load, by the empty mask of those that it
+-- may not.
 use Rattle.std.proofs.Common.{◌≡◌, ◌<◌, ◌≤◌, ◌%◌, ◌^◌, ◌||◌, ◌==◌, ◌∙◌, ℕ, Bool, true, false}
 use Rattle.std.proofs.Common.{not, List, map, length, take, get_or, Fits, w8, sym, ap, subst, arith}
 use Rattle.std.specs.List.{list_all}
@@ -9,7 +10,7 @@ use Rattle.std.proofs.lemmas.List.Elements.{All-from_get_or}
 use Rattle.std.proofs.lemmas.List.Sums.{list_all-from_AllPass, prefix_len_passes}
 use lib.Lanes.{mask_l, top}
 
--- where no lane of a load is set, each of its bytes passes, if each whose lane is not set does
+-- if no lane of a load is set, each byte passes, provided that each byte whose lane isn't set does
 pub all_pass :
     (q : ℕ → Bool) (n : ℕ) (bytes z : List ℕ) → n ≤ length bytes → n ≤ 64
     → ((k : ℕ) → Fits w8 (get_or bytes k 0)) → (mask_l (map (top 7) z) % 2 ^ 64 == 0) ≡ true

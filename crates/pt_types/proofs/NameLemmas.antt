@@ -1,4 +1,4 @@
--- NameLemmas: which bytes a name may have, by the table, and names that grow byte by byte
+-- NameLemmas: which bytes a name may contain, by the table, and names that grow byte by byte.
 use Rattle.std.proofs.Common.{◌≡◌, ◌<◌, ◌≤◌, ◌+◌, ◌-◌, ◌^◌, ◌&&◌, ◌⊎◌, ◌∙◌, ℕ, zero, suc, Bool}
 use Rattle.std.proofs.Common.{true, false, not, List, [], ◌∷◌, ◌++◌, length, take, drop, get_or}
 use Rattle.std.proofs.Common.{ap, refl, sym, subst, arith, inl, inr}
@@ -55,7 +55,7 @@ right_at (suc n) byte h lt =
 pub may_stand_at : (byte : ℕ) → byte < 2 ^ 8 → get_or MAY_STAND byte false ≡ is_name_byte byte
 may_stand_at byte fits = right_at 256 byte refl fits
 
--- so many bytes from a place on, one by one, and what follows them
+-- a number of bytes from an index on, one by one, and what follows them
 abbrev one_by_one : List ℕ → ℕ → ℕ → List ℕ → List ℕ
 one_by_one xs i zero fill = fill
 one_by_one xs i (suc n) fill = get_or xs i 0 ∷ one_by_one xs (suc i) n fill
@@ -74,7 +74,7 @@ filled_front xs fill word n least below e =
     ap (take (length xs)) (e ∙ all_one_by_one xs fill 0 n (omega (arith, least, below)))
     ∙ take_at xs fill (length xs) refl
 
--- whether all bytes may stand, with bytes after them that may
+-- whether a name may contain all of some bytes, with bytes after them that it may contain
 pub filled_stand :
     (xs fill word : List ℕ) (n : ℕ) → n ≤ length xs → length xs < suc n
     → word ≡ one_by_one xs 0 n fill → list_all is_name_byte fill ≡ true
@@ -126,7 +126,7 @@ longer_front bytes word zeros long fits rest =
     take-append-more (x ∷ xs) ys (suc m) n e =
         ap (λ zs. x ∷ zs) (take-append-more xs ys m n (omega (arith, e)))
 
--- whether all of some bytes and some more may stand
+-- if a name may contain all of some bytes and all of some more, it may contain both together
 pub stand_both :
     (xs ys : List ℕ) → list_all is_name_byte xs ≡ true → list_all is_name_byte ys ≡ true
     → list_all is_name_byte (xs ++ ys) ≡ true
@@ -136,7 +136,7 @@ stand_both (x ∷ xs) ys one two =
     and_true (is_name_byte x) (list_all is_name_byte (xs ++ ys)) parts.0
     (stand_both xs ys parts.1 two)
 
--- whether all bytes of a word may stand
+-- whether a name may contain all bytes of a word
 pub word_all :
     (word bytes : List ℕ) → length word ≡ 8
     → list_all is_name_byte word ≡ list_all is_name_byte bytes
@@ -169,8 +169,8 @@ halves block one two n long first second enough =
     (second ∙ (take-take 16 n (drop 16 block) enough ∙ take_all 16 (drop 16 block) short))
     ∙ take-append-drop 16 block
 
--- whether all bytes of a name may stand, by its first sixteen and a word that begins with the
--- others
+-- whether a name may contain all of some bytes, by the first sixteen and a word that begins with
+-- the others
 pub long_all :
     (bytes word : List ℕ) → list_all is_name_byte (take 16 bytes) ≡ true → length word ≡ 8
     → list_all is_name_byte word
@@ -207,7 +207,7 @@ stand_front (suc m) (x ∷ xs) all =
     and_true (is_name_byte x) (list_all is_name_byte (take m xs)) parts.0
     (stand_front m xs parts.1)
 
--- whether all of some bytes may stand, by so many at both ends
+-- whether a name may contain all of some bytes, by n at each end that cover them all
 pub both_ends :
     (bytes : List ℕ) (n k : ℕ) → length bytes ≤ n + n → n ≤ length bytes → n ≤ k
     → list_all is_name_byte (take n bytes) ≡ true

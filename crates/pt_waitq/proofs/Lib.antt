@@ -1,6 +1,7 @@
--- ChangeLemmas: for what keeps queues: what is read of them and who stands, as its lists change
+-- ChangeLemmas: for code that stores queues: what is read off them and which clients wait, when its
+-- lists change
 pub mod ChangeLemmas
--- CallerLemmas: for callers: what inserting and removing ask, and what they leave
+-- CallerLemmas: for callers: what inserting and removing require, and what they leave
 pub mod CallerLemmas
--- MemberLemmas: members of queues, as calls come, go and are moved
+-- MemberLemmas: members of queues, when calls come, go and are moved
 pub mod MemberLemmas

@@ -41,7 +41,7 @@ returns-else-rests-clause-enters g c =
     c.push_arrived-rests.result pushed.adds pushed.both).enters c.settle_after.new.body.stored
     c.settle_after.ensures.settles
 
--- an arrival that lets nothing follow has no answer
+-- an arrival after which nothing must follow has no answer
 pub returns-then-rests-clause-told : goal.returns-then-rests-clause-told
 returns-then-rests-clause-told g c =
     let s = c.args.body.now in

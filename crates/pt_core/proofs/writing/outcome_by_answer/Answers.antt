@@ -8,7 +8,7 @@ use Rattle.pt_state.specs.Adds.{past}
 use Rattle.pt_legal.specs.Applying.{IsToldStill, told_at_once}
 use Rattle.pt_core.proofs.writing.outcome_by_answer.Goals as goal
 
--- a call whose entry is the last has no answer, if it had none as it came
+-- a call whose entry is the last has no answer if it had none as it came
 pub returns-in-Call-None : goal.returns-in-Call-None
 returns-in-Call-None g c =
     let s = c.args.body.now in

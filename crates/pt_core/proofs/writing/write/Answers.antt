@@ -18,7 +18,7 @@ pub make_room-requires-clause-need : goal.make_room-requires-clause-need
 make_room-requires-clause-need g c =
     c.requires.planned.needs
 
--- room alone was made, so the plan is right still
+-- only room was made, so the plan is still right
 pub enter-requires-clause-planned : goal.enter-requires-clause-planned
 enter-requires-clause-planned g c =
     let made = c.in_default.ensures.ok.made in
@@ -31,7 +31,7 @@ pub enter-requires-clause-open : goal.enter-requires-clause-open
 enter-requires-clause-open g c =
     open-made c.args.body.now c.make_room.new.body c.args.event.now c.in_default.ensures.ok
 
--- a call that was answered as it came has its answer still
+-- a call that was answered as it came still has its answer
 pub outcome_by_answer-outcome-requires-clause-still :
     goal.outcome_by_answer-outcome-requires-clause-still
 outcome_by_answer-outcome-requires-clause-still g c =

@@ -1,4 +1,4 @@
--- A refused growth answers Err; of any other the inner allocator's answer is handed on.
+-- A refused growth returns Err; for any other, the inner allocator's answer is handed on.
 use Rattle.std.proofs.Common.{◌≡◌, ℕ, ◌+◌, ◌^◌, ◌<◌, Bool, true, false, List, [], ◌∷◌, Ok, Err}
 use Rattle.std.proofs.Common.{refl, w64, Bor}
 use seplogic.Ra.Ura.{Ura}

@@ -8,11 +8,11 @@ use Rattle.pt_grammar.specs.Lines.{lines, lines_past_newline, to_come, Held, IsB
 use Rattle.pt_lines.proofs.cutter.cut_all.Goals as goal
 use Rattle.pt_lines.proofs.cutter.cut_all.Goals.{in-Some-finish+else-is_err-2, in_default-finish}
 
--- these lines were given of these bytes, and a cutter that holds this gives the others
+-- these lines were given for these bytes, and a cutter that holds the rest gives the others
 abbrev Given : List ℕ → List Cut → Held → Type 0
 Given bytes cuts held = (more : List ℕ) → lines (bytes ++ more) ≡ cuts ++ to_come held more
 
--- one more piece is fed
+-- after one more piece is fed
 given-fed :
     {X : Type 0} (text : X → List ℕ) (pieces : List X) (i : ℕ) (d : X) (cuts : List Cut)
     (old new : Held) → i < length pieces → Given (flat_map text (take i pieces)) cuts old
@@ -30,13 +30,13 @@ given-fed text pieces i d cuts old new lt given fed more =
     (sym (append_assoc old.rest piece more))
     ∙ ap (λ held. cuts ++ to_come held more) (sym fed)
 
--- what a push that was not refused leaves
+-- a push that was not refused added the line
 pushed :
     (done : Bool) (cuts all : List Cut) (cut : Cut)
     → all ≡ cond done (cuts ++ cut ∷ []) cuts → done ≡ true → all ≡ cuts ++ cut ∷ []
 pushed done cuts all cut is held = is ∙ ap (λ b. cond b (cuts ++ cut ∷ []) cuts) held
 
--- one more line is given
+-- after one more line is given
 given-line :
     (bytes : List ℕ) (cuts all : List Cut) (cut : Cut) (old new : Held) → Given bytes cuts old
     → ((more : List ℕ) → to_come old more ≡ cut ∷ to_come new more)
@@ -47,7 +47,7 @@ given-line bytes cuts all cut old new given next is more =
     ∙ sym (append_assoc cuts (cut ∷ []) (to_come new more))
     ∙ ap (λ ls. ls ++ to_come new more) (sym is)
 
--- no line is given
+-- after no line is given
 given-none :
     (bytes : List ℕ) (cuts : List Cut) (old new : Held) → Given bytes cuts old
     → ((more : List ℕ) → to_come old more ≡ to_come new more) → Given bytes cuts new

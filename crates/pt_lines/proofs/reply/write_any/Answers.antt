@@ -7,7 +7,7 @@ use Rattle.pt_lines.specs.Replies.{answer_word, sender}
 use Rattle.pt_lines.proofs.AppendLemmas.{append-same, append-two, append-reply}
 use Rattle.pt_lines.proofs.reply.write_any.Goals as goal
 
--- there is room for all, since room was made
+-- there is room for the whole answer after room was made
 room_made :
     {T E : Type 0} (r : Result T E) (used from digits word room : ℕ) → is_ok r ≡ true
     → OnOk r (used + (from + digits + word + 2) ≤ room) → used + (from + digits + word + 2) ≤ room

@@ -39,7 +39,7 @@ its-place g c =
     (c.len-place.ensures ∙ sym (place_of_next old.stored)) c.push_endless_wait-prio.ensures.priority
     c.entering.ensures
 
--- it may stand there
+-- it may take its place there
 may-stand : (g : Over) → (c : goal.After-entering g)
     → CanStand (past c.push_endless_wait-prio.new.self) c.args.c
     (g.Q.WaitList.seen c.args.queues.now)

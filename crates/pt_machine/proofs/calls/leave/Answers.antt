@@ -8,7 +8,7 @@ use Rattle.pt_machine.proofs.QueuedSame.{past-adds}
 use Rattle.pt_machine.proofs.QueuedLeft.{can-stand-left, queued-left}
 use Rattle.pt_machine.proofs.calls.leave.Goals as goal
 
--- the call has just come, and stands in no queue
+-- the call has just come, and is in no queue
 pub take_place-requires-clause-ready : goal.take_place-requires-clause-ready
 take_place-requires-clause-ready g c =
     can-stand-left (past c.args.state.now) c.requires.ready.read.follows c.args.c

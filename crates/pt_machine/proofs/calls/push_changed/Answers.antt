@@ -10,12 +10,12 @@ use Rattle.pt_state.specs.Adds.{past}
 use Rattle.pt_state.specs.Requests.{object_meant}
 use Rattle.pt_machine.proofs.calls.push_changed.Goals as goal
 
--- of two cases, the one that holds
+-- what follows from each of two cases, if one of them holds
 either : {A B C : Type 0} → A ⊎ B → (A → C) → (B → C) → C
 either (inl a) f g = f a
 either (inr b) f g = g b
 
--- a wait or an arrival that is answered 0 at once, which no verdict does, changes nothing
+-- a wait or an arrival that is answered 0 at once, as no verdict does, changes nothing
 pub finish_seldom-requires : goal.finish_seldom-requires
 finish_seldom-requires g c =
     let idle = nearly-done c.args.state.now c.args.c c.args.call.now (Some told.Done)

@@ -29,7 +29,7 @@ drop_deadline-requires g c = λ d e.
     (sym c.open_nth.ensures ∙ c.in-Some.is))
     d (was-set _ _ d (sym (c.loop-i.invariant o.call.place) ∙ e))
 
--- one row more was seen
+-- one more row was seen
 pub loop-i-preserved : goal.loop-i-preserved
 loop-i-preserved g c =
     elim c.match-open_nth.branch [

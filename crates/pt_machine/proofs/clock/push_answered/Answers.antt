@@ -23,7 +23,7 @@ returns-then-moves g c =
           c.drop_moved.ensures;
     }
 
--- a call that moves none leaves them
+-- a call that moves none leaves the deadlines unchanged
 pub returns-else-moves : goal.returns-else-moves
 returns-else-moves g c =
     record {

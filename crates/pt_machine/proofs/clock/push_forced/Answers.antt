@@ -60,7 +60,7 @@ returns-in-Serve g c = record {
       c.push_forced.ensures.adds);
 }
 
--- a dead owner's lock is given up
+-- a mutex is taken from its dead owner
 pub returns-in-Yield : goal.returns-in-Yield
 returns-in-Yield g c = record {
   adds = c.push_forced-in-Yield.ensures.adds;

@@ -20,7 +20,7 @@ returns-in-None g c =
           c.push_left.ensures.err;
     }
 
--- one that needs no memory has no deadline, and asks for no read lock
+-- a call that needs no memory has no deadline that is a time, and asks for no read lock
 pub returns-in-Some : goal.returns-in-Some
 returns-in-Some g c =
     record {

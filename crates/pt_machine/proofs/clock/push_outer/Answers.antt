@@ -31,7 +31,7 @@ push_call-requires-clause-asks g c =
     subst (λ e. HasRequest (past c.args.state.now) e c.args.request.now) c.in-Call.is
     c.requires.asks
 
--- a client called
+-- a client made a call
 pub returns-in-Call : goal.returns-in-Call
 returns-in-Call g c = record {
   ok = let s = c.args.state.now in
@@ -87,7 +87,7 @@ returns-in-Join g c = record {
       c.push_join.ensures.ok c.push_join.ensures.err;
 }
 
--- the clock went on
+-- a clock was read
 pub returns-in-Moment : goal.returns-in-Moment
 returns-in-Moment g c = record {
   ok = let s = c.args.state.now in

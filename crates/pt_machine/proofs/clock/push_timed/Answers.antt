@@ -36,7 +36,7 @@ returns-in-Ok g c = record {
       c.in-Ok.ensures.ok;
 }
 
--- and cancelled where the call is refused
+-- and cancelled if the call is refused
 pub returns-in-Err-push_left : goal.returns-in-Err-push_left
 returns-in-Err-push_left g c = record {
   ok = tt;

@@ -19,14 +19,14 @@ use Rattle.pt_machine.proofs.PlaceTakes.{take-put}
 use Rattle.pt_machine.proofs.cond.push_broadcast.Given.{Over}
 use Rattle.pt_machine.proofs.cond.push_broadcast.Goals as goal
 
--- the queues without the one that was taken out
+-- the queues without the waiter that was taken out
 taken : (queue queue' : ℕ → List Waiter) (found : Option Waiter) (first : Waiter)
     → found ≡ Some first → IfSome found (λ v. (q : ℕ) → queue' q ≡ without v.client (queue q))
     → (q : ℕ) → queue' q ≡ without first.client (queue q)
 taken queue queue' found first is out =
     subst (λ o. IfSome o (λ v. (q : ℕ) → queue' q ≡ without v.client (queue q))) is out
 
--- the queues if none was
+-- the queues if none was taken out
 left : (queue queue' : ℕ → List Waiter) (found : Option Waiter) → found ≡ None
     → IfNone found ((q : ℕ) → queue' q ≡ queue q) → (q : ℕ) → queue' q ≡ queue q
 left queue queue' found is same = subst (λ o. IfNone o ((q : ℕ) → queue' q ≡ queue q)) is same
@@ -44,7 +44,7 @@ mutex_of_waits-m-requires-clause-cond g c =
     cond-found (past c.args.state.now) c.requires.ready.read.follows c.args.n.now
     c.unwrap-q.result (sym c.requires.found ∙ c.unwrap-q.ensures)
 
--- the first of the waits, moved, is at its mutex
+-- the first of the waits, after its move, is at its mutex
 its-place : (g : Over) → (c : goal.After-moved_at g)
     → Takes (past c.push_broadcast.new.self) c.in-Some.first.client c.mutex_of_waits-m.result
     c.moved_at.result
@@ -54,7 +54,7 @@ its-place g c =
     (c.moved_at.ensures ∙ ap (λ j. record c.in-Some.first { moved = j })
     (c.len-place.ensures ∙ sym (place_of_next c.args.state.now.stored)))
 
--- and may stand there
+-- and may take its place there
 may-stand : (g : Over) → (c : goal.After-moved_at g)
     → CanStand (past c.push_broadcast.new.self) c.in-Some.first.client
     (g.Q.WaitList.seen c.take_first.new.self)
@@ -77,7 +77,7 @@ insert-requires-clause-made g c = take-made (may-stand g c) (its-place g c)
 pub insert-requires-clause-latest : goal.insert-requires-clause-latest
 insert-requires-clause-latest g c = take-latest (may-stand g c) (its-place g c)
 
--- the queues in which it has its place
+-- the queues after it has taken its place
 put : (g : Over) → (c : goal.After-insert g) → (w : WaitingCall)
     → In w (open_calls (past c.push_broadcast.new.self)) → w.client ≡ c.in-Some.first.client
     → (r : ℕ)

@@ -52,7 +52,7 @@ returns-in-Expire g c = record {
   queued = c.push_expire.ensures.queued;
 }
 
--- a lock that a dead owner's entry gives up changes no queue
+-- a Yield changes no queue
 pub returns-in-Yield : goal.returns-in-Yield
 returns-in-Yield g c = record {
   adds =

@@ -8,7 +8,7 @@ use Rattle.pt_state.specs.Adds.{past}
 use Rattle.pt_machine.proofs.GrantedStates.{free-lock, lock-free}
 use Rattle.pt_machine.proofs.granted_at_once.is_free.Goals as goal
 
--- what follows from what holds if a value is true
+-- if a fact holds whenever a value is true, so does what follows from it
 if_true : {P Q : Type 0} (b : Bool) → OnTrue b P → (P → Q) → OnTrue b Q
 if_true true p f = f p
 if_true false p f = tt

@@ -42,7 +42,7 @@ its-place g c =
     (c.len-place.ensures ∙ sym (place_of_next old.stored)) c.priority_in_row-prio.ensures
     c.asking.ensures
 
--- it may stand there
+-- it may take its place there
 may-stand : (g : Over) → (c : goal.After-asking g)
     → CanStand (past c.push_acquire.new.self) c.args.c (g.Q.WaitList.seen c.args.queues.now)
 may-stand g c =

@@ -20,7 +20,7 @@ room-told : (xs ys : List Answered) (a : Answered) (old new : List Waiter) (firs
 room-told xs ys a old new first room less told split =
     omega (arith, less, ap length told, length-append xs (a ∷ []), ap length split)
 
--- one is left, so there is a first one
+-- at least one waiter is left, so there is a first one
 pub unwrap-first-requires : goal.unwrap-first-requires
 unwrap-first-requires g c =
     let queue = (g.Q.WaitList.seen c.loop-left.queues).queue in
@@ -28,7 +28,7 @@ unwrap-first-requires g c =
     subst (λ o. IsSome o) (sym c.take_first.ensures.first)
     (some-first (queue c.args.b) (omega (arith, some, c.loop-left.invariant.left)))
 
--- there is room for the first one's answer
+-- there is room for the answer to the first one
 pub push-requires : goal.push-requires
 push-requires g c =
     let queue = (g.Q.WaitList.seen c.loop-left.queues).queue in
@@ -40,7 +40,7 @@ push-requires g c =
           (sym c.take_first.ensures.first ∙ c.unwrap-first.ensures),
     )
 
--- it is taken out of its queue
+-- the first one is removed from its queue
 pub loop-left-smaller : goal.loop-left-smaller
 loop-left-smaller g c =
     let queue = (g.Q.WaitList.seen c.loop-left.queues).queue in
@@ -50,7 +50,7 @@ loop-left-smaller g c =
     (first-out (queue c.args.b) c.unwrap-first.result
     (sym c.take_first.ensures.first ∙ c.unwrap-first.ensures))
 
--- and no other queue changes
+-- no other queue changes
 pub loop-left-preserved : goal.loop-left-preserved
 loop-left-preserved g c =
     let queue = (g.Q.WaitList.seen c.loop-left.queues).queue in

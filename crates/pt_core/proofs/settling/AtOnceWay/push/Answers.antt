@@ -18,7 +18,7 @@ use Rattle.pt_machine.specs.Planned.{IsAtOnce, IsPlanned}
 use Rattle.pt_core.proofs.WholeLemmas.{ready-outer, ready-after, begins-both}
 use Rattle.pt_core.proofs.settling.AtOnceWay.push.Goals as goal
 
--- a call that is said to be granted as it comes is
+-- if the flag says that a call is granted as it comes, it is
 granted : (h : History) (v : Event) (b : Bool) → IsAtOnce h v b → (c : ℕ) (call : Asked)
     → v ≡ event.Call c call → b ≡ true → IsGrantedAtOnce h c call
 granted h v b k c call is e =

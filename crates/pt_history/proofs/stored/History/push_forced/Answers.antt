@@ -10,7 +10,7 @@ use Rattle.pt_history.proofs.Pushed.{memory-left, room-left, within-more, some-r
 use Rattle.pt_history.proofs.Seen.{entries-left}
 use Rattle.pt_history.proofs.stored.History.push_forced.Goals as goal
 
--- it is no outer entry
+-- a forced entry is no outer entry
 none_outer : (f : ForcedEntry) → ◌≡◌ {A = ℕ} 0 (cond (is_forced (forced_entry f)) 0 1)
 none_outer (Grant j x) = refl
 none_outer (Trip b) = refl

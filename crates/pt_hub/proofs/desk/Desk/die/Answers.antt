@@ -7,7 +7,7 @@ use Rattle.pt_hub.proofs.DeskLemmas.{desk-died, desk-kept}
 use Rattle.pt_hub.proofs.OpenedDesks.{written-unsealed}
 use Rattle.pt_hub.proofs.desk.Desk.die.Goals as goal
 
--- a Death never seals
+-- a Death never seals the history
 pub returns-in-Ok-clause-unsealed : goal.returns-in-Ok-clause-unsealed
 returns-in-Ok-clause-unsealed g c =
     subst (λ (r : Result Applied Refusal). IfOk r (λ a. a.sealed ≡ None)) c.in-Ok.is

@@ -6,7 +6,7 @@ use Rattle.pt_state.specs.Adds.{past}
 use Rattle.pt_machine.specs.Services.{IsService}
 use Rattle.pt_machine.proofs.body.Body.first_service.Goals as goal
 
--- nothing is touched, so nothing can be served
+-- no object is touched, so no call can be served
 pub returns-in_err-self : goal.returns-in_err-self
 returns-in_err-self g c =
     let h = past c.args.self.now in
@@ -15,7 +15,7 @@ returns-in_err-self g c =
     subst (IsService h _) (sym c.from_residual.ensures)
     (served_candidate h c.requires.follows ∙ ap (candidate_if h) (sym last))
 
--- what can be served is at the object that is touched
+-- a call that can be served waits at the object that is touched
 pub returns : goal.returns
 returns g c =
     let h = past c.args.self.now in

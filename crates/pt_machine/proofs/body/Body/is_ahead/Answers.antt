@@ -6,7 +6,7 @@ use Rattle.pt_machine.specs.Queued.{IsQueued}
 use Rattle.pt_machine.proofs.QueueAhead.{ahead-first, ahead-none, not-alone}
 use Rattle.pt_machine.proofs.body.Body.is_ahead.Goals as goal
 
--- what follows from what holds if a value is true
+-- if a fact holds whenever a value is true, so does what follows from it
 if_true : {P Q : Type 0} (b : Bool) → OnTrue b P → (P → Q) → OnTrue b Q
 if_true true p f = f p
 if_true false p f = tt

@@ -6,17 +6,17 @@ use Rattle.pt_state.specs.Adds.{past}
 use Rattle.pt_history.proofs.Places.{held-past}
 use Rattle.pt_machine.proofs.body.Body.needs_seal.Goals as goal
 
--- past a limit, the rest decides
+-- past the limit, the room alone decides
 within : (limit entries room : ℕ) → limit < entries + room
     → nat_le room limit ≡ (nat_lt limit (entries + room) && nat_le room limit)
 within limit entries room l = grind (arith, nat_tests)
 
--- else nothing does
+-- otherwise the comparison with the limit decides
 under : (limit entries room : ℕ) → entries + room ≤ limit
     → nat_lt limit (entries + room) ≡ (nat_lt limit (entries + room) && nat_le room limit)
 under limit entries room l = grind (arith, nat_tests)
 
--- room that is there fits the limit
+-- no seal is needed if the entries and the room are within the limit
 there : (limit entries room : ℕ) → entries + room ≤ limit
     → false ≡ (nat_lt limit (entries + room) && nat_le room limit)
 there limit entries room l = grind (arith, nat_tests)

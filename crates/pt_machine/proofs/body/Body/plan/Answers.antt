@@ -9,17 +9,17 @@ use Rattle.pt_machine.proofs.NeedLimits.{need-most}
 use Rattle.pt_machine.proofs.NeedSteps.{need-event}
 use Rattle.pt_machine.proofs.body.Body.plan.Goals as goal
 
--- what is reserved after an entry, by what it adds and uses
+-- the need after an entry, by what it adds and uses
 needs-next : (now before added used a u next : ℕ) → now ≡ before → added ≡ a → used ≡ u
     → next + u ≡ before + a → now + added - used ≡ next
 needs-next now before added used a u next same adds uses step = omega arith
 
--- it uses no more than there is
+-- it uses no more than is reserved
 uses-less : (now before added used a u next : ℕ) → now ≡ before → added ≡ a → used ≡ u
     → next + u ≡ before + a → used ≤ now + added
 uses-less now before added used a u next same adds uses step = omega arith
 
--- and there is never more than so much
+-- and the need stays within its limit
 needs-few : (now before added used : ℕ) → now ≡ before → before ≤ 8192 → added ≤ 3
     → now + added - used ≤ 8195
 needs-few now before added used same most small = omega arith

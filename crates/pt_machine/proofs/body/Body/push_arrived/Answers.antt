@@ -24,7 +24,7 @@ push_arrival-requires-clause-waits g c = c.requires.waits
 pub push_first-requires-clause-read : goal.push_first-requires-clause-read
 push_first-requires-clause-read g c = c.push_arrival.ensures.read
 
--- what is served there is ready
+-- the service of the first call there can be pushed
 pub push_first-requires-clause-ready : goal.push_first-requires-clause-ready
 push_first-requires-clause-ready g c =
     let old = c.args.self.now in

@@ -15,8 +15,8 @@ use Rattle.pt_machine.proofs.OpenPlaces.{place-in}
 use Rattle.std.proofs.lemmas.Bool.{false≢true}
 use Rattle.pt_machine.proofs.body.Body.push_next.Goals as goal
 
--- where no call is to be served and no mutex to be taken from the dead, the deadline that passed
--- first must end its call
+-- if no call is to be served and no mutex is to be taken from a dead owner, the call whose deadline
+-- passed first must expire
 late-next : (h : History) (p : ℕ)
     → ◌≡◌ {A = Option WaitingCall} None
     (least (is_served_before h) (filter (is_served h) (open_calls h)))
@@ -27,7 +27,7 @@ late-next h p none orphan due =
     ∙ (ap (λ y. option_or (yield_if y) (forced_expire h)) (sym orphan)
     ∙ (ap expire_if due.1 ∙ ap (λ j. Some (Expire j)) (place-in p (open_calls h) due.0 due.2).1))
 
--- and if none has passed either, nothing must follow
+-- and if no deadline has passed either, nothing must follow
 none-next : (h : History)
     → ◌≡◌ {A = Option WaitingCall} None
     (least (is_served_before h) (filter (is_served h) (open_calls h)))

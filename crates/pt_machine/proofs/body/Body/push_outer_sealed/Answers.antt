@@ -59,7 +59,7 @@ plan_seldom-plan-requires-clause-step g c =
 pub push_outer-requires-clause-planned : goal.push_outer-requires-clause-planned
 push_outer-requires-clause-planned g c = c.plan_seldom-plan.ensures.planned
 
--- none is reported yet, and there is room for what is
+-- no answer is stored yet, and there is memory for as many as may come
 spare-sealed : (n room capacity : ℕ) → n ≤ room → room ≤ capacity → 0 + n ≤ capacity
 spare-sealed n room capacity few held = omega arith
 

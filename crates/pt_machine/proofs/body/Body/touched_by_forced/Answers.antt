@@ -8,7 +8,7 @@ use Rattle.pt_state.specs.Serving.{IsFor, entry_of}
 use Rattle.pt_machine.proofs.OpenRowCalls.{row-goal}
 use Rattle.pt_machine.proofs.body.Body.touched_by_forced.Goals as goal
 
--- a deadline touches what its call is for in the end
+-- an Expire touches the object that its call is for in the end
 pub returns-in-Expire : goal.returns-in-Expire
 returns-in-Expire g c =
     let s = c.args.self.now in

@@ -5,7 +5,7 @@ use Rattle.pt_model.specs.declared.start.StartReader.{StartReader}
 use Rattle.pt_state.specs.Copies.{reader_start, readers_of}
 use Rattle.pt_state.proofs.sealing.readers.add_readers_of.Goals as goal
 
--- one row more was copied
+-- one more row was copied
 one_more : (o i : ℕ) (rows : List (ℕ × ℕ)) (before so_far now : List StartReader)
     → i < length rows → now ≡ so_far ++ reader_start o (get_or rows i (0, 0)) ∷ []
     → so_far ≡ before ++ readers_of o (take i rows)

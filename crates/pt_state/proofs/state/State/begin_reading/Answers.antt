@@ -6,13 +6,13 @@ use Rattle.pt_state.proofs.StandLemmas.{nearly-left}
 use Rattle.pt_state.proofs.StandObjects.{lock-there, object_rows-reading, stayed-again}
 use Rattle.pt_state.proofs.state.State.begin_reading.Goals as goal
 
--- what two answers of an Ok give together
+-- what follows from two promises about an Ok
 of-both : {T E A B P : Type 0} (answer : Result T E) → OnOk answer A → OnOk answer B
     → (A → B → P) → OnOk answer P
 of-both (Ok v) a b f = f a b
 of-both (Err e) a b f = tt
 
--- what an answer of an Err gives
+-- what follows from a promise about an Err
 of-err : {T E A P : Type 0} (answer : Result T E) → OnErr answer A → (A → P) → OnErr answer P
 of-err (Ok v) a f = tt
 of-err (Err e) a f = f a

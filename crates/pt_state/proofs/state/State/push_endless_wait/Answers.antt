@@ -71,7 +71,7 @@ wait_at-requires g c =
     (waits_there s c.args.c c.args.call.now c.requires.ready) in
     client-there c.release.new.clients c.args.c v.0 v.1
 
--- the tables but for the client's row
+-- the tables, except for the client's row
 nearly : (g : Over) → (c : goal.After-wait_at g)
     → IsNearlyLeft (record c.args.self.now {
       clients = c.release.new.clients;
@@ -94,7 +94,7 @@ nearly g c =
     (c.release.ensures.mutex mutex.0 mutex.1))
     (c.release.ensures.chained s.orphans c.requires.ready.read.chained)
 
--- whose priority is the client's
+-- its priority is the client's
 its-priority : (g : Over) → (c : goal.After-wait_at g)
     → option_map (λ (v : Caller). v.priority) (Some (nearly g c).there.0)
     ≡ client (past c.args.self.now) c.args.c

@@ -7,7 +7,7 @@ use Rattle.pt_table.proofs.Filed.{filed_cleared}
 use Rattle.pt_table.proofs.Places.{within, fits}
 use Rattle.pt_table.proofs.names.Names.forget.Goals as goal
 
--- the names that stay in the map are filed still
+-- the names that stay in the map are still filed
 left_filed : (cells new : Cells) (others left : List (List ℕ × ℕ)) (name t : List ℕ) (s : ℕ)
     → new ≡ cells → IsForgotten others name left → same_name name t ≡ false
     → IsFiled cells others t s → IsFiled new left t s

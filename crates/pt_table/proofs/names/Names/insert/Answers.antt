@@ -12,7 +12,7 @@ use Rattle.pt_table.proofs.names.Names.insert.Goals as goal
 fits_cell : (slot : ℕ) → slot < 65536 → Fits w16 slot
 fits_cell slot below = omega arith
 
--- where the cell has no room for the slot, the map has
+-- if the cell has no room for the slot, the map has
 has_room : (first : Option ℕ) (free : Bool) (slot room : ℕ) → is_some first ≡ not free
     → ((free ≡ true) × (65536 ≤ slot)) ⊎ (free ≡ false)
     → ((first ≡ None) × (slot < 65536)) ⊎ (0 < room) → 0 < room

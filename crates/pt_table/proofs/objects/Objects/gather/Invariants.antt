@@ -6,6 +6,6 @@ abbrev pub invariant-loop-rest : goal.invariant-loop-rest
 invariant-loop-rest g l =
     IsGathered l.fn.self l.fn.head l.rest (take l.count l.numbers) × (l.count ≤ length l.numbers)
 
--- the numbers that there is still room for
+-- how many more numbers there is room for
 abbrev pub decreases-loop-rest : goal.decreases-loop-rest
 decreases-loop-rest g l = length l.fn.numbers - l.count

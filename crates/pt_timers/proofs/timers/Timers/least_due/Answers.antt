@@ -6,7 +6,7 @@ use Rattle.pt_timers.proofs.DueLemmas.{real-alone, sooner-due}
 use Rattle.pt_timers.proofs.timers.Timers.least_due.Goals as goal
 use Rattle.pt_timers.proofs.timers.Timers.least_due.Goals.{in-Some, in-None+in_ok-due-in-None}
 
--- the sooner of the two that are due, or the one by the real clock
+-- the sooner of the two that are due, or the one that is due by the real clock
 pub returns : goal.returns
 returns g c =
     let w = c.args.self.now in
