@@ -1,10 +1,10 @@
 #!/usr/bin/env python3
-"""A test bench: what does the next owner of a robust mutex learn, if its owner is killed?
+"""A test bench: what does the next owner of a robust mutex learn if its owner is killed?
 
     examples/owner-dies.py
 
-A server is started, and a process that locks the mutex `m`. That process is killed, and a client
-that waits for `m` gets it with EOWNERDEAD. The program that serves is $PTSERVER, or ./ptserver.
+It starts a server, and a process that locks the mutex `m`. The process is killed, and a client that
+waits for `m` gets it with EOWNERDEAD. The server is the program $PTSERVER, or else ./ptserver.
 """
 import os
 import pathlib
@@ -30,7 +30,7 @@ time.sleep(60)
 
 
 def start(*command):
-    """A process, and the first line that it writes."""
+    """Starts a process, and returns it with the first line that it writes."""
     process = subprocess.Popen(command, stdout=subprocess.PIPE, text=True)
     return process, process.stdout.readline().strip()
 

@@ -1,13 +1,14 @@
 #!/usr/bin/env python3
-"""Proves and builds a program of this repository with all crates that it uses.
+"""Proves and builds a program of this repository, with all crates that it uses.
 
     tools/build.py pt_server
 
-Each crate is proved as soon as those that it uses are, and several at once if none uses another.
-A check is shared out among processors that the others leave, and the longer its way to the program
-is, the less it yields to them. What is built of a crate is kept beside a stamp, the sum of all that
-it was made from, and is made anew only once that is another. Standard error gets a line for each
-crate that is proved. The toolchain's own output goes to a file, which is named if a crate fails.
+Each crate is proved as soon as the crates that it uses are proved. Several are proved at once if
+none uses another. A check uses the processors that the other checks leave free, and the longer its
+way to the program is, the less it yields to them. The build of a crate is stored with a stamp, a
+hash of everything that it was made from, and it is rebuilt only when that hash changes. Standard
+error gets a line for each crate that is proved. The toolchain's own output goes to a file, which is
+named if a crate fails.
 """
 import fcntl
 import functools
@@ -23,21 +24,22 @@ from concurrent.futures import FIRST_COMPLETED, ThreadPoolExecutor, wait
 
 TOP = os.path.dirname(os.path.dirname(os.path.abspath(__file__)))
 PROCESSORS = len(os.sched_getaffinity(0))
-# A check takes up to this much memory.
+# The most memory that a check takes.
 BYTES_A_CHECK = 2_500_000_000
-# Before its first function a check takes as long as for this much code.
+# The time that a check takes before its first function, as the size of code that takes as long.
 BYTES_TO_BEGIN = 10_000
-# The prover's allocator keeps the memory that it frees: by default it returns it to the system
-# after a second, and a third to a half of the page faults of a check are for memory that it takes
-# back.
+# The prover's allocator is told to keep the memory that it frees. By default it returns that memory
+# to the system after a second, and a third to a half of a check's page faults are for memory that
+# it takes back.
 ALLOCATOR_SETTINGS = {"MIMALLOC_PURGE_DELAY": "-1"}
-# In a crate's folder: rt lets built libraries lie in out/rlib alone, and rt ci puts that back.
+# The place of builds in a crate's folder. rt allows built libraries in out/rlib only, and rt ci
+# restores that folder.
 KEPT = "out/rlib/build"
 
 
 @functools.cache
 def find_kit():
-    """The folder of the toolchain, which holds the page that `rt doc` names."""
+    """Returns the folder of the toolchain, which holds the page that `rt doc` names."""
     said = subprocess.run(["rt", "doc"], check=True, stdout=subprocess.PIPE, text=True)
     return os.path.dirname(said.stdout.strip())
 
@@ -50,25 +52,25 @@ def kit_identity():
 
 @functools.cache
 def read_lines():
-    """The lines of crates.txt that name a crate, by its name."""
+    """Returns the lines of crates.txt that name a crate, by its name."""
     with open(f"{TOP}/crates.txt", encoding="utf-8") as file:
         lines = [line.split("#")[0].strip() for line in file]
     return {line.split()[0].rstrip(":"): line for line in lines if line}
 
 
 def uses(name):
-    """The libraries that a crate's line names, of this repository and of the toolchain."""
+    """Returns the libraries that a crate's line names, of this repository and of the toolchain."""
     return read_lines()[name].split(":")[1].split()
 
 
 def crates_of(name):
-    """The crates of this repository that a crate uses."""
+    """Returns the crates of this repository that a crate uses."""
     return [it for it in uses(name) if it in read_lines()]
 
 
 @functools.cache
 def below(name):
-    """All crates that a crate uses, each after those that it uses itself."""
+    """Returns all crates that a crate uses, directly or not, each after those that it uses."""
     ordered = []
     for use in crates_of(name):
         ordered += [it for it in [*below(use), use] if it not in ordered]
@@ -76,19 +78,19 @@ def below(name):
 
 
 def files_of(name):
-    """The paths of a crate's sources, definitions and proofs."""
+    """Returns the paths of a crate's sources, definitions and proofs."""
     parts = [f"{TOP}/crates/{name}/{part}" for part in ("src", "specs", "proofs")]
     return sorted(f"{at}/{it}" for part in parts for at, _, names in os.walk(part) for it in names)
 
 
 def weight_of(name):
-    """About how long a check takes, in bytes of code: proofs say less of it."""
+    """Estimates how long a check takes, in bytes of code. The size of proofs says less about it."""
     code = f"{TOP}/crates/{name}/src/"
     return BYTES_TO_BEGIN + sum(os.path.getsize(it) for it in files_of(name) if it.startswith(code))
 
 
 def weights(names):
-    """For each crate the weights of all that is proved one after another up to the program."""
+    """Returns for each crate the greatest sum of weights on a way from it up to the program."""
     found = {}
     for name in reversed(names):
         above = [found[it] for it in found if name in crates_of(it)]
@@ -101,7 +103,7 @@ def is_program(name):
 
 
 def built(name):
-    """Where it is kept what is built of a crate: a library, or the object file of a program."""
+    """Returns the path of a crate's build: a library, or the object file of a program."""
     return f"{TOP}/crates/{name}/{KEPT}/{name}{'.o' if is_program(name) else '.rlib'}"
 
 
@@ -110,7 +112,7 @@ def stamp_file(name):
 
 
 def stamp_of(name, stamps):
-    """The sum of all that a crate is built from, the stamps of the crates that it uses included."""
+    """Returns a hash of all that a crate is built from, the stamps of its crates included."""
     parts = [kit_identity(), read_lines()[name], *[stamps[it] for it in crates_of(name)]]
     for path in files_of(name):
         with open(path, "rb") as file:
@@ -119,7 +121,7 @@ def stamp_of(name, stamps):
 
 
 def is_kept(name, stamp):
-    """Whether what is kept of a crate was built from what this stamp sums up."""
+    """Returns true if the stored build of a crate was made from what this stamp sums up."""
     if not os.path.exists(stamp_file(name)) or not os.path.exists(built(name)):
         return False
     with open(stamp_file(name), encoding="utf-8") as file:
@@ -127,7 +129,7 @@ def is_kept(name, stamp):
 
 
 def keep(name, new, stamp):
-    """Keeps what was built of a crate. No moment has a stamp beside what it does not stand for."""
+    """Stores a crate's new build. At no moment is a stamp stored beside a build of other inputs."""
     if os.path.exists(stamp_file(name)):
         os.remove(stamp_file(name))
     shutil.rmtree(built(name), ignore_errors=True)
@@ -137,7 +139,7 @@ def keep(name, new, stamp):
 
 
 def library_words(name):
-    """The words by which a check finds the libraries that a crate uses."""
+    """Returns the words by which a check finds the libraries that a crate uses."""
     crates, kit = crates_of(name), f"{find_kit()}/rlibs"
     of_kit = ["std", *[it for it in uses(name) if it not in crates]]
     found = {it: f"{kit}/{it}.rlib" for it in of_kit} | {it: built(it) for it in crates}
@@ -147,7 +149,7 @@ def library_words(name):
 
 
 def proof_words(name, jobs, to):
-    """The command that proves a crate and builds it. It keeps no proofs, which would slow it."""
+    """Returns the command that proves and builds a crate. Storing proofs, too, would slow it."""
     kit = find_kit()
     by_llvm = ["--toolchain", f"{kit}/toolchain", "--backend", "llvm"]
     return [
@@ -161,7 +163,7 @@ def proof_words(name, jobs, to):
 
 
 def link_words(name, to):
-    """The command that links a program."""
+    """Returns the command that links a program."""
     kit = find_kit()
     return [
         *(f"{kit}/bin/rattle-link", "--target", "x86_64-unknown-linux-gnu"),
@@ -171,7 +173,7 @@ def link_words(name, to):
 
 
 def run(words, name, log, nice=0):
-    """The status of a command of the toolchain in a crate's folder."""
+    """Runs a command of the toolchain in a crate's folder, and returns its status."""
     with open(log, "ab") as out:
         done = subprocess.run(
             ["nice", "-n", str(nice), *words],
@@ -185,13 +187,13 @@ def run(words, name, log, nice=0):
 
 
 def prove(name, stamps, log, jobs, nice):
-    """What went wrong as a crate was proved, or None: then what was built of it is kept."""
+    """Proves a crate. Returns what went wrong, or None after its build was stored."""
     stamp, new = stamp_of(name, stamps), f"{built(name)}.new"
     shutil.rmtree(new, ignore_errors=True)
     os.makedirs(os.path.dirname(new), exist_ok=True)
     status = run(proof_words(name, jobs, new), name, log, nice)
     if status == -signal.SIGKILL and jobs > 1:
-        # Most likely for memory, and one job takes less.
+        # It was most likely killed for lack of memory, and one job takes less.
         status = run(proof_words(name, 1, new), name, log, nice)
     if status != 0:
         return f"{name} could not be proved: see {log}"
@@ -203,29 +205,29 @@ def prove(name, stamps, log, jobs, nice):
 
 
 def available_bytes():
-    """The memory that checks can have, with what files take of it for now."""
+    """Returns the memory that checks can have, including what cached files take for now."""
     with open("/proc/meminfo", encoding="utf-8") as file:
         kilobytes = dict(line.split()[:2] for line in file)
     return int(kilobytes["MemAvailable:"]) * 1024
 
 
 def checks_at_once():
-    """One more than there are processors, and no more than memory allows."""
+    """Returns one more than the number of processors, or what memory allows if that is less."""
     return max(1, min(PROCESSORS + 1, available_bytes() // BYTES_A_CHECK))
 
 
 def ready(waiting, running):
-    """The crates that can be begun: all that they use is there."""
+    """Returns the crates that can be begun, since all crates that they use are built."""
     to_do = {*waiting, *running}
     return [it for it in waiting if to_do.isdisjoint(crates_of(it))]
 
 
 def jobs_for(name, others, weight):
-    """The jobs of a check, beside others that run or can be begun too.
+    """Returns the number of jobs of a check, while other checks run or can be begun.
 
-    Two jobs cost a third more processor time than one, and more of them cost more again. So a check
-    gets two only if the others have too little to do for the rest of the processors, and all only
-    if there are no others.
+    Two jobs cost a third more processor time than one, and more jobs cost still more. So a check
+    gets two only if the others have too little work for the rest of the processors, and gets all
+    processors only if no other check runs or can be begun.
     """
     if not others:
         return PROCESSORS
@@ -234,18 +236,18 @@ def jobs_for(name, others, weight):
 
 
 def niceness(name, to_do, weight):
-    """How much a check yields, by how long its way to the program is."""
+    """Returns how much a check yields to others, by the length of its way to the program."""
     return round(19 * (1 - weight[name] / max(weight[it] for it in to_do)))
 
 
 def begin(name, waiting, running, weight):
-    """The jobs and the niceness of a check that begins now, before those that wait."""
+    """Returns the jobs and the niceness of a check that begins now, before those that wait."""
     others = [*ready(waiting, [name, *running]), *running]
     return jobs_for(name, others, weight), niceness(name, [name, *waiting, *running], weight)
 
 
 def prove_all(names, stamps, scratch):
-    """Whether all crates were proved. After one that was not, no more are begun."""
+    """Returns true if all crates were proved. After one that was not, no more are begun."""
     weight, running, at_once, is_well = weights(names), {}, checks_at_once(), True
     waiting = sorted(names, key=lambda it: -weight[it])
     with ThreadPoolExecutor(at_once) as pool:
@@ -265,7 +267,7 @@ def prove_all(names, stamps, scratch):
 
 
 def prove_changed(names, scratch):
-    """Whether all crates are proved: those of which nothing is kept that still serves are now."""
+    """Proves the crates whose stored build is missing or outdated. Returns true if all are."""
     stamps = {}
     for name in names:
         stamps[name] = stamp_of(name, stamps)
@@ -273,7 +275,10 @@ def prove_changed(names, scratch):
 
 
 def link(program, began, scratch):
-    """Whether the program was linked. It is as old as the build, and so older than later edits."""
+    """Links the program, dated to the start of the build, so that later edits are newer than it.
+
+    Returns true if it was linked.
+    """
     made, log = f"{TOP}/crates/{program}/out/{program}", f"{scratch}/{program}.log"
     if run(link_words(program, f"{made}.new"), program, log) != 0:
         say(f"{program} could not be linked: see {log}")
@@ -293,7 +298,7 @@ def take_turn(names):
 
 
 def lock(folder):
-    """Whether a folder is locked now: nothing else has its lock."""
+    """Locks a folder and returns true, or returns false if something else has its lock."""
     try:
         fcntl.flock(folder, fcntl.LOCK_EX | fcntl.LOCK_NB)
     except BlockingIOError:

@@ -1,12 +1,12 @@
 #!/usr/bin/env python3
-"""Writes docs/DEFINITIONS.md: what the public contracts speak of, with meaning, source and file.
+"""Writes docs/DEFINITIONS.md: the definitions of public contracts, with meaning, source and file.
 
     python3 tools/definitions.py
 
-A public contract is a clause of a function that a crate of CRATES exports: a free function, a
-method of a type or a trait, or what a type is seen as. The table has each definition that such a
-clause names, and each that one of these names in turn. The meaning is the comment above a
-definition; the source is the bracket at the end of that comment.
+A public contract is a clause of an item that a crate of CRATES exports: a free function, a method
+of a type or a trait, or what a type is seen as. The tables have each definition that such a clause
+names, and each definition that one of these names in turn. The meaning of a definition is the
+comment above it, and its source is the bracket at the end of that comment.
 """
 import pathlib
 import re
@@ -41,7 +41,7 @@ WORD = re.compile(r"[^\s(){}\[\].,;:λ→×⊎≡]+")
 
 
 def crates():
-    """The crates in the order of crates.txt."""
+    """Yields the crates in the order of crates.txt."""
     for line in (TOP / "crates.txt").read_text().splitlines():
         line = line.split("#")[0].strip()
         if line:
@@ -49,7 +49,7 @@ def crates():
 
 
 def imported(text):
-    """What the words of a file mean: word to (crate, file, definition)."""
+    """Returns what the words of a file mean: a map from words to (crate, file, definition)."""
     meant = {}
     for crate, file, names in IMPORT.findall(text):
         for name in names.split(","):
@@ -59,12 +59,12 @@ def imported(text):
 
 
 def words(text):
-    """The words of a text, without the fields of records."""
+    """Returns the words of a text, without the fields of records."""
     return WORD.findall(re.sub(r"(?<=[\w)'])\.\w+", "", text))
 
 
 class File:
-    """A file of definitions: its rows in order, and what each row uses."""
+    """A file of definitions: its rows in order, and the definitions that each row uses."""
 
     def __init__(self, crate, path):
         text = path.read_text()
@@ -95,7 +95,7 @@ class File:
 
 
 def read_files():
-    """All files of definitions, by crate and name."""
+    """Returns all files of definitions, by crate and name."""
     files = {}
     for crate in crates():
         for path in sorted((TOP / "crates" / crate / "specs").glob("*.antt")):
@@ -104,7 +104,7 @@ def read_files():
 
 
 def clauses(path, exported):
-    """Each public item of a source, with the text of its contract."""
+    """Yields each public item of a source, with the text of its contract."""
     owner, opened, item, text = None, False, None, []
     for line in path.read_text().splitlines():
         found, seen, header = FUNCTION.match(line), SEEN.match(line), OWNER.match(line)
@@ -128,7 +128,7 @@ def clauses(path, exported):
 
 
 def public_item(name, line, owner, opened):
-    """The name of a function that can be called from outside, if its owner can be named there."""
+    """Returns the name of a function that can be called where its owner can be named, or None."""
     is_method = line.startswith(" ")
     if not (line.lstrip().startswith("pub ") or (is_method and opened)):
         return None
@@ -136,7 +136,7 @@ def public_item(name, line, owner, opened):
 
 
 def spoken_of():
-    """Each definition that a public contract names, with the first item that does."""
+    """Returns each definition that a public contract names, with the first item that names it."""
     named = {}
     for crate in CRATES:
         folder = TOP / "crates" / crate / "src"
@@ -153,7 +153,7 @@ def spoken_of():
 
 
 def resolve(files, place):
-    """The definition at a place, which may be a constructor of it."""
+    """Returns the definition at a place, or that of the constructor at a place, or None."""
     crate, file, name = place
     at = files.get((crate, file))
     if at is None:
@@ -163,7 +163,7 @@ def resolve(files, place):
 
 
 def chosen(files):
-    """The definitions of the table: those that contracts name, and those that these use."""
+    """Returns the definitions of the tables: those named by contracts, and those that these use."""
     named = {}
     for place, item in spoken_of().items():
         named.setdefault(resolve(files, place), item)
@@ -177,7 +177,7 @@ def chosen(files):
 
 
 def row(name, comment, item):
-    """The row of a definition."""
+    """Returns the row of a definition."""
     source = SOURCE.search(comment)
     meaning = SOURCE.sub("", comment).replace("|", "\\|")
     cells = [f"`{name}`", meaning, f"`{item}`" if item else "", source[1] if source else ""]

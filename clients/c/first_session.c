@@ -1,4 +1,4 @@
-/* A mutex outlives the process that owns it: the first session of the README, from two processes.
+/* A mutex outlives the process that owns it: the first session of the README, in two processes.
  *
  *     ptserver serve --socket /tmp/pt.sock &
  *     cc -std=gnu11 -o first_session first_session.c
@@ -25,7 +25,7 @@ static int start(struct pt_client *client, const char *path, int priority)
     return answer == 0 ? 0 : failed("hello", answer);
 }
 
-/* Process A locks the mutex, and ends without unlocking it. */
+/* Runs process A, which locks the mutex and ends without unlocking it. */
 static int run_a(const char *path, int is_locked)
 {
     struct pt_client a;
@@ -45,7 +45,7 @@ static int run_a(const char *path, int is_locked)
     return 0;
 }
 
-/* Process B waits for the mutex, and learns that its owner died. */
+/* Runs process B, which waits for the mutex and learns that its owner died. */
 static int run_b(const char *path)
 {
     struct pt_client b;

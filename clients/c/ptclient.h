@@ -1,4 +1,4 @@
-/* A client of `ptserver serve`, for programs in C: this header alone, C11 and POSIX sockets.
+/* A client of `ptserver serve`, for programs in C: this header alone, with C11 and POSIX sockets.
  *
  *     #include "ptclient.h"
  *
@@ -10,21 +10,21 @@
  *     pt_mutex_unlock(&client, "m");
  *     pt_close(&client);
  *
- * A connection is one client, and the server takes it for a process with a single thread of a fixed
- * priority. When the connection is closed, that process has ended: what it owns is dealt with as
- * POSIX says of a dead owner.
+ * A connection is one client. The server treats it as a process with a single thread of a fixed
+ * priority. When the connection is closed, that process has ended, and what it owns is handled as
+ * POSIX prescribes for a dead owner.
  *
  * Each call word of the server has a function, which waits for its answer and returns it:
  *
  *     0            done
- *     an errno     as the function of POSIX returns it: EPERM, EINVAL, EBUSY, EAGAIN, EDEADLK,
- *                  ETIMEDOUT, EOWNERDEAD, ENOTRECOVERABLE; and ENOMEM, if the server has no memory
+ *     an errno     what the function of POSIX returns: EPERM, EINVAL, EBUSY, EAGAIN, EDEADLK,
+ *                  ETIMEDOUT, EOWNERDEAD, ENOTRECOVERABLE; and ENOMEM if the server has no memory
  *     PT_SERIAL    PTHREAD_BARRIER_SERIAL_THREAD
  *     PT_SYNTAX .. PT_FULL    the line was not accepted, and nothing has changed
- *     PT_WAITING   no answer yet: only from pt_answer, if its time has passed
- *     PT_LOST      the connection has ended, or a line has not been answered yet
+ *     PT_WAITING   no answer yet: only from pt_answer, after its time has passed
+ *     PT_LOST      the connection has ended, or an earlier line has not been answered yet
  *
- * docs/RULES.md says what each call is answered. One thread at a time may use a client. Define
+ * docs/RULES.md says how each call is answered. Only one thread at a time may use a client. Define
  * _POSIX_C_SOURCE as 200809L or more, or compile with -std=gnu11.
  */
 #ifndef PTCLIENT_H
@@ -54,7 +54,7 @@ enum {
     PT_LOST = -10
 };
 
-/* The longest line that the server reads, without its newline; and room for a longest answer. */
+/* The longest line that the server reads, without its newline, and room for the longest answer. */
 enum { PT_LINE = 128, PT_ANSWER = 64 };
 
 struct pt_client {
@@ -65,7 +65,7 @@ struct pt_client {
     char bytes[PT_ANSWER];
 };
 
-/* Connects to the socket at `path`. Returns 0, or an errno. */
+/* Connects to the socket at `path`. Returns 0 or an errno. */
 static inline int pt_connect(struct pt_client *client, const char *path)
 {
     struct sockaddr_un address = {.sun_family = AF_UNIX};
@@ -85,7 +85,7 @@ static inline int pt_connect(struct pt_client *client, const char *path)
     return 0;
 }
 
-/* Ends the connection, and with it the client's process. */
+/* Closes the connection, which ends the client's process. */
 static inline void pt_close(struct pt_client *client)
 {
     if (client->socket >= 0)
@@ -93,13 +93,13 @@ static inline void pt_close(struct pt_client *client)
     client->socket = -1;
 }
 
-/* Whether a line that was sent has no answer yet. */
+/* Returns 1 if a line that was sent has no answer yet, and 0 otherwise. */
 static inline int pt_is_waiting(const struct pt_client *client)
 {
     return client->answered < client->sent;
 }
 
-/* Sends the bytes. Returns 0 or PT_LOST. */
+/* Sends these bytes. Returns 0 or PT_LOST. */
 static inline int pt_put(struct pt_client *client, const char *bytes, size_t length)
 {
     while (length > 0) {
@@ -127,8 +127,8 @@ static inline int pt_send_list(struct pt_client *client, const char *format, va_
     return 0;
 }
 
-/* Sends a line without waiting for its answer, which pt_answer returns. The format is printf's.
- * Returns 0, PT_LOST, or PT_LONG if the line is so long that it is not sent. */
+/* Sends a line without waiting for its answer, which pt_answer returns. The format is that of
+ * printf. Returns 0, PT_LOST, or PT_LONG if the line is too long to be sent. */
 static inline int pt_send(struct pt_client *client, const char *format, ...)
 {
     va_list words;
@@ -138,7 +138,7 @@ static inline int pt_send(struct pt_client *client, const char *format, ...)
     return result;
 }
 
-/* What an answer's word means to a caller. */
+/* Returns the value that a caller gets for the word of an answer. */
 static inline int pt_value_of(const char *word)
 {
     static const struct {
@@ -177,7 +177,7 @@ static inline long long pt_milliseconds(void)
     return now.tv_sec * 1000LL + now.tv_nsec / 1000000;
 }
 
-/* Waits until there is something to read. Returns 0, PT_WAITING or PT_LOST. */
+/* Waits until something can be read. Returns 0, PT_WAITING or PT_LOST. */
 static inline int pt_wait_readable(struct pt_client *client, int milliseconds, long long until)
 {
     for (;;) {
@@ -212,7 +212,8 @@ static inline int pt_read(struct pt_client *client)
     }
 }
 
-/* Takes the first line of what was read. Returns its value, or PT_LOST for no answer. */
+/* Takes the first line of what was read. Returns its value, or PT_LOST if it does not answer the
+ * next line. */
 static inline int pt_take(struct pt_client *client, char *newline)
 {
     *newline = '\0';
@@ -228,8 +229,8 @@ static inline int pt_take(struct pt_client *client, char *newline)
     return value;
 }
 
-/* The answer to the oldest line that has none yet. After that many milliseconds it is PT_WAITING,
- * and the call still waits in the server; -1 waits without end. */
+/* Waits for the answer to the oldest line that has none yet, and returns it. After this many
+ * milliseconds returns PT_WAITING, and the call still waits in the server; -1 waits without end. */
 static inline int pt_answer(struct pt_client *client, int milliseconds)
 {
     if (!pt_is_waiting(client))
@@ -259,7 +260,7 @@ static inline int pt_ask(struct pt_client *client, const char *format, ...)
     return result == 0 ? pt_answer(client, -1) : result;
 }
 
-/* Clients and clocks. The priority is 1 to 99, 99 the highest. A clock is "real" or "mono". */
+/* Clients and clocks. A priority is 1 to 99, 99 is the highest. A clock is "real" or "mono". */
 
 static inline int pt_hello(struct pt_client *client, int priority)
 {
@@ -276,14 +277,14 @@ static inline int pt_mono_moment(struct pt_client *client, struct timespec now)
     return pt_ask(client, "mono-moment %lld %ld", (long long)now.tv_sec, now.tv_nsec);
 }
 
-/* Defines the function of a call word with a name. */
+/* Defines the function for a call word with a name. */
 #define PT_NAMED(function, word)                                            \
     static inline int function(struct pt_client *client, const char *name) \
     {                                                                       \
         return pt_ask(client, word " %s", name);                            \
     }
 
-/* Defines the function of a call word with a name and a deadline. */
+/* Defines the function for a call word with a name and a deadline. */
 #define PT_TIMED(function, word)                                                  \
     static inline int function(struct pt_client *client, const char *name,        \
                                struct timespec deadline)                          \
@@ -292,7 +293,7 @@ static inline int pt_mono_moment(struct pt_client *client, struct timespec now)
                       (long long)deadline.tv_sec, deadline.tv_nsec);              \
     }
 
-/* Defines the function of a call word with a name, a clock and a deadline. */
+/* Defines the function for a call word with a name, a clock and a deadline. */
 #define PT_CLOCKED(function, word)                                                \
     static inline int function(struct pt_client *client, const char *name,        \
                                const char *clock, struct timespec deadline)       \
@@ -301,7 +302,7 @@ static inline int pt_mono_moment(struct pt_client *client, struct timespec now)
                       (long long)deadline.tv_sec, deadline.tv_nsec);              \
     }
 
-/* Mutexes. The kind is "normal", "default", "errorcheck" or "recursive"; robust is "robust" or
+/* Mutexes. The kind is "normal", "default", "errorcheck" or "recursive", and robust is "robust" or
  * "stalled". */
 
 static inline int pt_mutex_init(struct pt_client *client, const char *name, const char *kind,

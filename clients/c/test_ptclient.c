@@ -1,6 +1,6 @@
-/* Tests of ptclient.h against a running server: `tools/try-clients` builds and runs them.
+/* Tests of ptclient.h against a running server. `tools/try-clients` builds and runs them.
  *
- *     ./test_ptclient SOCKET     the server has the clock `lines`, and no objects yet
+ *     ./test_ptclient SOCKET     the server runs with `--clock lines`, and has no objects yet
  */
 #include "ptclient.h"
 

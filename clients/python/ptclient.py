@@ -1,6 +1,6 @@
 """A client of `ptserver serve`, for programs and test benches in Python.
 
-One file, with the standard library alone: copy it next to your program.
+It is one file that needs only the standard library: copy it next to your program.
 
     from ptclient import Answer, Client
 
@@ -10,16 +10,16 @@ One file, with the standard library alone: copy it next to your program.
             client.consistent("m")
         client.unlock("m")
 
-A `Client` is one connection, and the server takes it for a process with a single thread of a fixed
-priority. When the connection is closed, that process has ended: what it owns is dealt with as POSIX
-says of a dead owner.
+A `Client` is one connection. The server treats it as a process with a single thread of a fixed
+priority. When the connection is closed, that process has ended, and what it owns is handled as
+POSIX prescribes for a dead owner.
 
 Each call word of the server has a method. A method sends its line, waits for the answer and returns
-it as an `Answer`. A call that the server lets wait, such as `lock` of a mutex that another client
-owns, is answered when its wait ends. If that takes longer than the client's `timeout`, the method
-raises `TimeoutError`; the call still waits in the server, and `answer()` waits for it again.
+it as an `Answer`. A call that has to wait in the server, such as `lock` of a mutex that another
+client owns, is answered when its wait ends. If that takes longer than the client's `timeout`, the
+method raises `TimeoutError`; the call still waits in the server, and `answer()` waits for it again.
 
-docs/RULES.md says what each call is answered.
+docs/RULES.md says how each call is answered.
 """
 
 import enum
@@ -56,12 +56,12 @@ class Answer(enum.Enum):
 
     @property
     def is_refusal(self):
-        """Whether the line was not accepted, so that nothing has changed."""
+        """True if the line was not accepted, so that nothing has changed."""
         return self in REFUSALS
 
     @property
     def has_lock(self):
-        """After a call that locks: whether the caller has the lock now."""
+        """True if the caller now has the lock, for the answer to a call that locks."""
         return self in (Answer.DONE, Answer.EOWNERDEAD)
 
 
@@ -100,9 +100,9 @@ class Disconnected(ConnectionError):
 
 
 def deadline_after(seconds):
-    """The time of day that many seconds from now, as `(seconds, nanoseconds)`.
+    """Returns the time of day `seconds` from now, as `(seconds, nanoseconds)`.
 
-    For a server that runs with `--clock system`: `client.timedlock("m", *deadline_after(0.5))`.
+    It is for a server with `--clock system`: `client.timedlock("m", *deadline_after(0.5))`.
     """
     return divmod(time.time_ns() + round(seconds * NANOSECONDS), NANOSECONDS)
 
@@ -111,10 +111,10 @@ class Client:
     """One client of the server."""
 
     def __init__(self, path, priority=None, timeout=None):
-        """Connects to the socket `path`, and says hello if a priority is given.
+        """Connects to the socket at `path`, and says hello if a priority is given.
 
-        `timeout` is how many seconds a method waits for its answer; `None` is without end.
-        Raises `OSError` if there is no server, and `ValueError` if hello is refused.
+        `timeout` is the number of seconds that a method waits for its answer; `None` means without
+        end. Raises `OSError` if no server listens there, and `ValueError` if hello is refused.
         """
         self.timeout = timeout
         self._sent = 0
@@ -141,18 +141,18 @@ class Client:
         self.close()
 
     def close(self):
-        """Ends the connection, and with it the client's process."""
+        """Closes the connection, which ends the client's process."""
         self._socket.close()
 
     @property
     def is_waiting(self):
-        """Whether a line that was sent has no answer yet."""
+        """True if a line that was sent has no answer yet."""
         return self._answered < self._sent
 
     # Lines and answers
 
     def send(self, *words):
-        """Sends a line without waiting for its answer. `answer()` returns it."""
+        """Sends a line without waiting for its answer, which `answer()` returns."""
         line = " ".join(str(word) for word in words)
         try:
             self._socket.settimeout(None)
@@ -162,9 +162,10 @@ class Client:
         self._sent += 1
 
     def answer(self, timeout=None):
-        """The answer to the oldest line that has none yet.
+        """Waits for the answer to the oldest line that has none yet, and returns it.
 
-        Raises `TimeoutError` after `timeout` seconds, or the client's own timeout if none is given.
+        Raises `TimeoutError` after `timeout` seconds, or after the client's own timeout if none is
+        given.
         """
         if not self.is_waiting:
             raise RuntimeError("each line has been answered: send one first")
@@ -205,7 +206,7 @@ class Client:
     # Clients and clocks
 
     def hello(self, priority):
-        """Starts the client's process, with a thread of this priority: 1 to 99, 99 the highest."""
+        """Starts the client's process. Its thread has this priority: 1 to 99, 99 is the highest."""
         return self.ask("hello", priority)
 
     def moment(self, seconds, nanoseconds=0):

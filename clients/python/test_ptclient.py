@@ -1,6 +1,6 @@
-"""Tests of ptclient against a running server: `tools/try-clients` runs them.
+"""Tests of ptclient against a running server. `tools/try-clients` runs them.
 
-The program that serves is $PTSERVER, or ptserver at the top of the repository.
+The server is the program $PTSERVER, or else ptserver at the top of the repository.
 """
 
 import os
@@ -17,7 +17,7 @@ PROGRAM = os.environ.get("PTSERVER", str(TOP / "ptserver"))
 
 
 class Served(unittest.TestCase):
-    """A server of its own for each test."""
+    """A test case that starts a server of its own for each test."""
 
     clock = "lines"
 
