@@ -9,24 +9,25 @@ const SCRIPT: &str = "Answers the lines of standard input on standard output, ea
 
 const SERVE: &str = "Serves a Unix socket: each connection is a client, and its lines are calls";
 
-const SOCKET: &str = "The path of the socket: no file may be there yet, and it is not removed";
+const SOCKET: &str = "The path of the socket: no file may exist there yet, and it is not removed";
 
-const CLOCK: &str = "Whose clock deadlines are compared with: moment lines, or the system's";
+const CLOCK: &str = "What deadlines are compared with: the moment lines, or the system's clocks";
 
-const SESSIONS: &str = "End after so many connections, once they have ended; 0 is without end";
+const SESSIONS: &str = "Accept this many connections, and end after they have; 0 sets no limit";
 
 const CONNECTIONS: &str = "\
-It writes `ready` once it listens. A connection sends one call a line, with no client's name before
-it, and is answered with the number of the line and a result:
+It writes `ready` once it listens. A connection sends one call a line, without a client's name, and
+each line is answered with its number and a result:
 
   hello 10                       the connection is a client of priority 10 from here on
   mutex-init m normal robust
   lock m                         is answered `3 0` once it has the mutex
 
-A connection that ends is a client that dies. `ptserver script --help` lists the calls; `die` is
-none of them. At most 16 lines may wait for the answer to a call: one more ends the connection.
+When a connection ends, its client dies. `ptserver script --help` lists the calls; `die` is not one
+of them here. While a call waits, up to 16 more lines may be sent: one more ends the connection.
 
-After the last of --sessions N it writes `closed` and the number of events, if no event is missing.
+After the last of --sessions N connections it writes `closed` and the number of events, if no event
+is missing.
 
 Status: 0 done; 2 a wrong command line; 3 the socket, a thread or writing failed; 4 an event is
 missing; 5 out of memory.";
