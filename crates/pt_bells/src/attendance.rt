@@ -9,7 +9,7 @@ use std::alloc::Global;
 struct Attached {
     client: ClientId,
     session: SessionId,
-    /// Whether the session sleeps until the client's call is answered.
+    /// Whether the client's call waits.
     waits: bool,
 }
 
@@ -65,14 +65,14 @@ impl Attendance {
         }
     }
 
-    /// Notes whether a client's session sleeps until its call is answered.
-    pub fn note_wait(&mut self, client: ClientId, waits: bool) {
-        if let Some(k) = self.place_of(client) {
-            self.attached[k].waits = waits;
-        }
+    // Notes whether a client's call waits. Returns its session, if that was noted.
+    fn note(&mut self, client: ClientId, waits: bool) -> Option<SessionId> {
+        let k = self.place_of(client)?;
+        self.attached[k].waits = waits;
+        Some(self.attached[k].session)
     }
 
-    /// Returns true if it was noted that a session sleeps until a call is answered.
+    /// Returns true if the call of a session's client waits, and that was noted.
     pub fn is_waiting(&self, session: SessionId) -> bool {
         self.attached
             .iter()
@@ -88,13 +88,13 @@ impl Attendance {
 
     /// Notes that a client's call waits from now on. Nothing is noted if a growth is refused.
     pub fn begin_wait(&mut self, client: ClientId) {
-        if let Some(session) = self.session_of(client) {
+        if let Some(session) = self.note(client, true) {
             let _ = self.waiting.push(session);
         }
     }
 
-    /// Notes that the call of a session waits no more.
-    pub fn end_wait(&mut self, session: SessionId) {
+    // Notes that the call of a session waits no more.
+    fn end_wait(&mut self, session: SessionId) {
         if let Some(k) = self.turn_of(session) {
             let _ = self.waiting.remove(k);
         }
@@ -103,7 +103,7 @@ impl Attendance {
     /// Notes that a client's call was answered, so that its session waits no more. Returns the
     /// session, if it was noted.
     pub fn answered(&mut self, client: ClientId) -> Option<SessionId> {
-        let session = self.session_of(client)?;
+        let session = self.note(client, false)?;
         self.end_wait(session);
         Some(session)
     }
@@ -111,11 +111,5 @@ impl Attendance {
     /// Returns the session whose call has waited longest.
     pub fn longest_waiting(&self) -> Option<SessionId> {
         self.waiting.first().copied()
-    }
-
-    /// Returns the session that takes a client's answers, if that was noted.
-    pub fn session_of(&self, client: ClientId) -> Option<SessionId> {
-        let found = self.attached.iter().find(|it| it.client == client)?;
-        Some(found.session)
     }
 }

@@ -1,7 +1,8 @@
 //! The command line of `ptserver`: its words, their texts, and the exit statuses that they give.
 //!
-//! The program itself does what the words `script` and `serve` ask for. Only tests and runs show
-//! what is said here: contracts describe no text that is shown, and no word of a command line.
+//! The program itself does what the words `script`, `explain` and `serve` ask for. Only tests and
+//! runs show what is said here: contracts describe no text that is shown, and no word of a command
+//! line.
 #![tactic(auto)]
 
 mod reading;

@@ -8,6 +8,9 @@ use std::{env, io};
 /// The exit status after a fault of the command line.  [profile]
 const USAGE: u8 = 2;
 
+/// The exit status after a failed write.  [profile]
+const OUTPUT: u8 = 3;
+
 /// The exit status after a lack of memory.  [profile]
 const MEMORY: u8 = 5;
 
@@ -33,17 +36,24 @@ pub struct Service {
 pub enum Task {
     /// Answer a script.
     Script,
+    /// Explain a script.
+    Explain,
     /// Serve a socket.
     Serve(Service),
     /// Do nothing more. What was asked for, or what is wrong, has been shown.
     End(ExitCode),
 }
 
-// Shows what was asked for, or what is wrong with the words.
+// Shows what was asked for, or what is wrong with the words. Reports a text that was asked for and
+// can't be written.
 fn show(rt: &HostRuntime, error: &Error) -> ExitCode {
-    let _ = error.print(rt);
+    let shown = error.print(rt);
     if error.use_stderr() {
         return ExitCode::from(USAGE);
+    }
+    if shown.is_err() {
+        let _ = eprintln!(rt; "ptserver: write failed");
+        return ExitCode::from(OUTPUT);
     }
     ExitCode::SUCCESS
 }
@@ -70,6 +80,7 @@ fn task_of(rt: &HostRuntime, words: &[String]) -> Result<Task, Error> {
     };
     match matches.subcommand() {
         Some(("script", _)) => Ok(Task::Script),
+        Some(("explain", _)) => Ok(Task::Explain),
         Some(("serve", options)) => Ok(Task::Serve(read_service(rt.alloc(), options)?)),
         _ => Ok(Task::End(ExitCode::from(USAGE))),
     }

@@ -7,6 +7,8 @@ priority. Every answer is proved to be what the rules say.";
 
 const SCRIPT: &str = "Answers the lines of standard input on standard output, each as it comes";
 
+const EXPLAIN: &str = "Shows what each line of a script added to the history, with its answers";
+
 const SERVE: &str = "Serves a Unix socket: each connection is a client, and its lines are calls";
 
 const SOCKET: &str = "The path of the socket: no file may exist there yet, and it is not removed";
@@ -71,6 +73,39 @@ docs/RULES.md has the rules, and examples/ has scripts to try:
 
   ptserver script < examples/two-clients.script";
 
+const ENTRIES: &str = "\
+It reads what `ptserver script` reads. For each line it writes the line, the entries that the line
+added to the history, each behind its place, and the answers that `script` writes, each behind `>`:
+
+  A unlock m
+     6  Call(0, unlock m, 0)     A, who joined at place 0, unlocks m, and is answered 0
+     7  Grant(5, 0)              the call at place 5 is answered 0: it has the mutex now
+  > A 4 0
+  > B 2 0
+
+The entries are these. C is the number of a client, which is the place of its Join; the number of an
+OBJECT is the place of the call that made it:
+
+  Join(C, PRIORITY)              a client joins
+  Call(C, CALL, ANSWER)          it makes a call; the answer is none if there is none yet
+  Death(C)                       its process ends
+  Moment(CLOCK, S, N)            a clock shows S seconds and N nanoseconds
+  Grant(PLACE, ANSWER)           the call at this place gets what it waits for, and this answer
+  Yield(OBJECT)                  the owner of a mutex is dead, and the next one may have it
+  Trip(OBJECT)                   a barrier is full, and its calls are answered
+  Expire(PLACE)                  the deadline of the call at this place is due
+
+The output is a trace, which programs can read too: a line that is empty, or begins with a space, is
+a remark. A line of the script that is empty, or begins with a space, `#`, `<` or `>`, is written
+behind `< `, and one of more than 128 bytes as `<`.
+
+Status: 0 done, whatever was answered; 2 a wrong command line; 3 reading or writing failed;
+5 out of memory.
+
+`ptserver script --help` lists the calls. To try it:
+
+  ptserver explain < examples/two-clients.script";
+
 // Returns an option with its name, what its value is called, and what it is for.
 fn option<'a>(alloc: Global, name: &'a str, value: &'a str, help: &'a str) -> Arg<'a> {
     Arg::new(alloc, name)
@@ -108,11 +143,12 @@ fn serve<'a>(alloc: Global) -> Result<Command<'a>, Error> {
     Ok(word(alloc, "serve", SERVE, CONNECTIONS).args(options)?)
 }
 
-/// Returns the command line: `script`, `serve`, `--help` and `--version`.
+/// Returns the command line: `script`, `explain`, `serve`, `--help` and `--version`.
 pub fn command<'a>(alloc: Global) -> Result<Command<'a>, Error> {
     let serve = serve(alloc)?;
     let script = word(alloc, "script", SCRIPT, LINES);
-    let words = Vec::from_array(alloc, [script, serve])?;
+    let explain = word(alloc, "explain", EXPLAIN, ENTRIES);
+    let words = Vec::from_array(alloc, [script, explain, serve])?;
     let program = word(alloc, "ptserver", ABOUT, LINES)
         .version("0.1.0")
         .subcommand_required(true);

@@ -27,7 +27,7 @@ use Rattle.pt_core.specs.Renewing.{EntersSealed}
 use Rattle.pt_core.specs.Settling.{Settles}
 use Rattle.pt_core.specs.Wholes.{IsWhole, IsRoomy, HasRoom}
 use Rattle.pt_core.proofs.SealedCores.{settled}
-use Rattle.pt_core.proofs.WholeLemmas.{told-outer, roomy-outer, enters-outer}
+use Rattle.pt_core.proofs.WholeLemmas.{roomy-outer, enters-outer}
 
 module _ {A : Type 0} (old : State A) (whole : IsWhole old) (v : Event)
     (ok : refusal (past old) v ≡ None) where
@@ -59,12 +59,6 @@ module _ {A : Type 0} (old : State A) (whole : IsWhole old) (v : Event)
   -- the entry may follow the seal
   pub step-renewed : Step (Begin (seal (past old))) (entry_for (past old) v)
   step-renewed = subst (Step g) (sym (alike.enters v)) (step-event g v quiet refused)
-
-  -- it gives at most one answer there
-  pub told-renewed : length (told (Begin (seal (past old))) (entry_for (past old) v)) ≤ 1
-  told-renewed =
-      subst (λ (e : Entry). length (told (Begin (seal (past old))) e) ≤ 1) (sym (alike.enters v))
-      (told-outer g v)
 
   next : need (past old ▷ entry_for (past old) v)
       ≡ need (Begin (seal (past old)) ▷ entry_for (past old) v)

@@ -54,6 +54,10 @@ impl<A: Allocator + Copy> LegalHistory for Core<A> {
         Core::len(self)
     }
 
+    fn need(&self) -> u64 {
+        Core::need(self)
+    }
+
     fn first(&self) -> u64 {
         Core::first(self)
     }

@@ -316,14 +316,17 @@ impl<C: LegalHistory, A: Allocator + Copy> Engine<C, A> {
         }
     }
 
+    /// Returns the core, whose entries say what came of the lines.
+    pub fn core(&self) -> &C
+        ensures { C.seen result.now ≡ self.now.core }
+    {
+        &self.core
+    }
+
     /// Counts a line, does what it asks for, and appends its answer. A refused growth for which the
     /// line is not answered ENOMEM is a fault.
     #[inline(never)]
-    pub(crate) fn answer(
-        &mut self,
-        line: ScriptLine,
-        out: &mut Vec<u8, A>,
-    ) -> Result<(), ScriptFault>
+    pub fn answer(&mut self, line: ScriptLine, out: &mut Vec<u8, A>) -> Result<(), ScriptFault>
         requires { length self.old.seen < 2 ^ 53 }
         ensures ok { OnOk result
             (Adds (Says (known_by self.old) line (known_by self.new))

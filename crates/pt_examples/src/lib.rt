@@ -1,6 +1,6 @@
 //! The worked rows, played by the definitions alone: the entries that each event writes, the
 //! answers that it gives, and which histories are legal. Each function's contract is one row,
-//! proved by computation. `docs/ROWS.md` has each row in words. No code of this crate runs.
+//! proved by computation. `tools/list rows` prints each row. No code of this crate runs.
 #![tactic(auto)]
 
 ghost use Rattle.pt_examples.specs.Row2.{IsPlayed2, IsLegal2};

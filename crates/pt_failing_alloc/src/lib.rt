@@ -55,6 +55,13 @@ impl<B> Refusing<B> {
         }
     }
 
+    /// Returns the allocator that calls are passed on to.
+    pub fn inner(&self) -> &B
+        ensures { result.now ≡ self.now.inner }
+    {
+        &self.inner
+    }
+
     /// Returns whether the growth to refuse has been asked for.
     pub fn has_refused(&self) -> bool
         ensures { IsTrue result → 0 < self.now.turns.refused }

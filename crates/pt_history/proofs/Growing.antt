@@ -180,9 +180,3 @@ shows-alone b e old None s = refl
 shows-alone b e old (Some c) s =
     shows-appended b e old old c _ (append-nothing old) (s.same (parts_of old))
     (s.stored (parts_of old))
-
--- an entry that is read off unchanged records
-pub shows-read : {A : Type 0} (b : ℕ) (e : Entry) (old : Records A) (c : Compact)
-    → decoded b (parts_of old) c ≡ e → IsStored (parts_of old) c → Shows b e old old c
-shows-read b e old c same stored =
-    shows-appended b e old old c _ (append-nothing old) same stored

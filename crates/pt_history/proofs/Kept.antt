@@ -65,17 +65,6 @@ counted-more s at old new cs ds e n m all o k =
     (subst (λ (x : ℕ). IsCounted s (entries_of at old cs ++ e ∷ []) (n + x)) (sym o)
     (counted-push s (entries_of at old cs) n e k))
 
--- what is seen with one more entry
-pub seen-more : (seen : Stored) (start : StartRows) (es ds : List Entry) (limit room : ℕ)
-    (e : Entry)
-    → ds ≡ es ++ e ∷ []
-    → viewed start es limit room ≡ seen
-    → viewed start ds limit (room - 1)
-    ≡ (record seen { entries = seen.entries ++ e ∷ []; room = seen.room - 1 })
-seen-more seen start es ds limit room e d v =
-    ap (λ (x : List Entry). viewed start x limit (room - 1)) d
-    ∙ ap (λ (s : Stored). record s { entries = s.entries ++ e ∷ []; room = s.room - 1 }) v
-
 -- the records with one more entry
 pub recorded-more : {A : Type 0} (b : ℕ) (old new : Records A) (cs ds : List Compact) (c : Compact)
     (e : Entry) (n : ℕ)

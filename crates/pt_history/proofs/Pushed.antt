@@ -1,25 +1,97 @@
--- The room and the memory of a stored history with one more entry.
-use Rattle.std.proofs.Common.{ℕ, ◌≡◌, ◌+◌, ◌-◌, ◌<◌, ◌≤◌, arith}
-use Rattle.pt_history.specs.Stored.{IsWithin}
+-- A stored history with one more entry.
+use Rattle.std.proofs.Common.{ℕ, ◌≡◌, ◌+◌, ◌-◌, ◌<◌, ◌≤◌, List, [], ◌∷◌, ◌++◌, ap, sym, ◌∙◌}
+use Rattle.std.proofs.Common.{subst, arith, if◌then◌else◌}
+use Rattle.std.specs.Prelude.{Vec, vec_len, vec_capacity, ◌^◌}
+use Rattle.pt_model.specs.declared.entry.Entry.{Entry}
+use Rattle.pt_model.specs.Histories.{is_forced}
+use Rattle.pt_model.specs.StartRows.{rows_of}
+use Rattle.pt_history.specs.declared.compact.Compact.{Compact}
+use Rattle.pt_history.specs.declared.records.Records.{Records}
+use Rattle.pt_history.specs.declared.stored.History.TheInside.{Inside}
+use Rattle.pt_history.specs.Compact.{base_of}
+use Rattle.pt_history.specs.Records.{Shows}
+use Rattle.pt_history.specs.Stored.{Stored, Appends, CanAppend, IsWithin, IsCounted, IsRecorded}
+use Rattle.pt_history.specs.Stored.{entries_of, pushed}
+use Rattle.pt_history.proofs.Counts.{outer-most}
+use Rattle.pt_history.proofs.Kept.{viewed, length-entries, entries-more, counted-more, recorded-more}
 
-pub memory-left : (room seen memory : ℕ) → room ≡ seen → 0 < seen → room ≤ memory → 0 < memory
-memory-left room seen memory e h l = omega arith
+module _ {A : Type 0} (i : Inside A) (seen : Stored)
+    (view : viewed (rows_of i.start) (entries_of i.start.at i.records i.entries.items) i.limit
+    i.room ≡ seen)
+    (some : 0 < seen.room)
+    (holds : IsWithin i.start.at (vec_len i.entries) i.room i.memory i.limit
+    (vec_capacity i.entries)
+    × IsCounted (rows_of i.start) (entries_of i.start.at i.records i.entries.items) i.outer
+    × IsRecorded i.records i.entries.items i.memory
+    × (i.base ≡ base_of i.start.at))
+  where
+    room-is : i.room ≡ seen.room
+    room-is = ap (λ (s : Stored). s.room) view
 
-pub within-more : (at len room memory limit capacity more other : ℕ)
-    → IsWithin at len room memory limit capacity → 0 < room → more ≡ len + 1 → other ≡ capacity
-    → IsWithin at more (room - 1) (memory - 1) limit other
-within-more at len room memory limit capacity more other w h e f = record {
-  fits = omega (arith, w.fits);
-  enough = omega (arith, w.enough);
-  held = omega (arith, w.held, w.enough);
-  places = w.places;
-}
+    -- there is room for one more entry
+    pub can-append : CanAppend i.entries i.room i.memory
+    can-append = record {
+      some = omega (arith, some, room-is);
+      enough = holds.0.enough;
+      held = holds.0.held;
+    }
 
-pub room-left : (room seen : ℕ) → room ≡ seen → 0 < seen → 0 < room
-room-left room seen e h = omega arith
+    -- the number of outer entries can grow
+    pub outer-fits : (m : ℕ) → m ≤ 1 → i.outer + m < 2 ^ 64
+    outer-fits m one =
+        let least = outer-most (rows_of i.start) (entries_of i.start.at i.records i.entries.items)
+        holds.1.before in
+        let many = length-entries i.start.at i.records i.entries.items in
+        omega (arith, one, holds.1.all, least, many, i.entries.ok.0, holds.0.fits, holds.0.places)
 
-pub some-room : (room seen : ℕ) → room ≡ seen → 0 < seen → 1 ≤ room
-some-room room seen e h = omega arith
+    -- an entry was appended
+    module _ (new : Records A) (ys : Vec Compact A) (c : Compact) (e : Entry)
+        (room memory : ℕ) (a : Appends c i.entries ys i.room room i.memory memory)
+        (shows : Shows i.base e i.records new c)
+      where
+        more : entries_of i.start.at new ys.items
+            ≡ entries_of i.start.at i.records i.entries.items ++ e ∷ []
+        more =
+            entries-more i.start.at i.base i.records new i.entries.items ys.items c e i.memory
+            holds.3 a.items shows holds.2
 
-pub some-memory : (room seen memory : ℕ) → room ≡ seen → 0 < seen → room ≤ memory → 1 ≤ memory
-some-memory room seen memory e h l = omega arith
+        -- the invariant holds still
+        pub holds-appended : (outer m : ℕ) → outer ≡ i.outer + m
+            → m ≡ (if is_forced e then 0 else 1)
+            → IsWithin i.start.at (vec_len ys) room memory i.limit (vec_capacity ys)
+            × IsCounted (rows_of i.start) (entries_of i.start.at new ys.items) outer
+            × IsRecorded new ys.items memory
+            × (i.base ≡ base_of i.start.at)
+        holds-appended outer m sum one = (
+          record {
+            fits = omega (arith, holds.0.fits, some, room-is, a.len, a.less_room);
+            enough = omega (arith, holds.0.enough, a.less_room, a.less_memory);
+            held = omega (
+              arith,
+              holds.0.held,
+              holds.0.enough,
+              some,
+              room-is,
+              a.len,
+              a.capacity,
+              a.less_memory,
+            );
+            places = holds.0.places;
+          },
+          subst (IsCounted (rows_of i.start) (entries_of i.start.at new ys.items)) (sym sum)
+              (counted-more (rows_of i.start) i.start.at i.records new i.entries.items ys.items e
+              i.outer m more one holds.1),
+          subst (IsRecorded new ys.items) (sym a.less_memory)
+              (recorded-more i.base i.records new i.entries.items ys.items c e i.memory a.items
+              (omega (arith, some, room-is, holds.0.enough)) shows holds.2),
+          holds.3,
+        )
+
+        -- the history has the entry, and room for one less
+        pub seen-appended : viewed (rows_of i.start) (entries_of i.start.at new ys.items) i.limit room
+            ≡ pushed e seen
+        seen-appended =
+            ap (λ (es : List Entry). viewed (rows_of i.start) es i.limit room) more
+            ∙ (ap (viewed (rows_of i.start)
+            (entries_of i.start.at i.records i.entries.items ++ e ∷ []) i.limit) a.less_room
+            ∙ ap (pushed e) view)

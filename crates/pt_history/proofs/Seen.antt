@@ -38,11 +38,6 @@ pub limit-read : (p : Parts) (i : ℕ) (x : TimeLimit) → i < length p.limits
     → x ≡ slice_index_or p.limits i x → x ≡ limit_at p i
 limit-read p i x less e = get_or_read p.limits i x less e _
 
--- there is memory for one more entry
-pub entries-left : (at len room memory limit capacity seen : ℕ)
-    → IsWithin at len room memory limit capacity → room ≡ seen → 0 < seen → len < capacity
-entries-left at len room memory limit capacity seen w e h = omega (arith, w.held, w.enough, e, h)
-
 -- entries and room fit into the limit, as contracts see them
 pub within-seen : (n len room other limit most : ℕ) → n ≡ len → room ≡ other → limit ≡ most
     → len + room ≤ limit → n + other ≤ most

@@ -1,6 +1,6 @@
 -- Stored: a stored history as contracts see it.
 use Rattle.std.specs.Prelude.{ℕ, ◌+◌, ◌≡◌, ◌≤◌, List, [], ◌∷◌, ◌++◌, ◌-◌, Option, Some, None, map}
-use Rattle.std.specs.Prelude.{length, vec_len}
+use Rattle.std.specs.Prelude.{length, vec_len, vec_capacity, Vec, ◌<◌}
 use Rattle.std.specs.List.{All}
 use Rattle.pt_types.specs.Limits.{most_places}
 use Rattle.pt_model.specs.declared.entry.Entry.{Entry}
@@ -66,3 +66,18 @@ pub record IsRecorded {A : Type 0} (records : Records A) (entries : List Compact
   pub stored : All (IsStored (parts_of records)) entries
   pub room : HasRoom records more
   pub few : vec_len records.wholes ≤ length entries
+
+-- there is room and memory for one more entry
+pub record CanAppend {A : Type 0} (entries : Vec Compact A) (room memory : ℕ) : Type 0 where
+  pub some : 0 < room
+  pub enough : room ≤ memory
+  pub held : vec_len entries + memory ≤ vec_capacity entries
+
+-- the stored entry is appended, in room and memory that there were
+pub record Appends {A : Type 0} (c : Compact) (old new : Vec Compact A)
+    (room room_left memory memory_left : ℕ) : Type 0 where
+  pub items : new.items ≡ old.items ++ c ∷ []
+  pub len : vec_len new ≡ vec_len old + 1
+  pub capacity : vec_capacity new ≡ vec_capacity old
+  pub less_room : room_left ≡ room - 1
+  pub less_memory : memory_left ≡ memory - 1

@@ -1,7 +1,7 @@
 //! Pushes of calls and of forced entries, in room that was made for them.
 
 use crate::compact::{ForcedEntry, stored_forced};
-use crate::stored::History;
+use crate::stored::{History, append};
 use pt_types::{Call, ClientId, Outcome};
 use std::alloc::Allocator;
 
@@ -25,9 +25,7 @@ impl<A: Allocator + Copy> History<A> {
             return false;
         };
         self.outer += 1;
-        self.entries.push_reserved(compact);
-        self.room -= 1;
-        self.memory -= 1;
+        append(&mut self.entries, &mut self.room, &mut self.memory, compact);
         true
     }
 
@@ -44,9 +42,7 @@ impl<A: Allocator + Copy> History<A> {
             return false;
         };
         self.outer += 1;
-        self.entries.push_reserved(compact);
-        self.room -= 1;
-        self.memory -= 1;
+        append(&mut self.entries, &mut self.room, &mut self.memory, compact);
         true
     }
 
@@ -63,9 +59,7 @@ impl<A: Allocator + Copy> History<A> {
             return false;
         };
         self.outer += 1;
-        self.entries.push_reserved(compact);
-        self.room -= 1;
-        self.memory -= 1;
+        append(&mut self.entries, &mut self.room, &mut self.memory, compact);
         true
     }
 
@@ -84,9 +78,7 @@ impl<A: Allocator + Copy> History<A> {
             return false;
         };
         self.outer += 1;
-        self.entries.push_reserved(compact);
-        self.room -= 1;
-        self.memory -= 1;
+        append(&mut self.entries, &mut self.room, &mut self.memory, compact);
         true
     }
 
@@ -101,9 +93,7 @@ impl<A: Allocator + Copy> History<A> {
         let compact = self
             .records
             .store_borrowed(self.base, client, call, outcome);
-        self.entries.push_reserved(compact);
-        self.room -= 1;
-        self.memory -= 1;
+        append(&mut self.entries, &mut self.room, &mut self.memory, compact);
     }
 
     // Appends the entry of any call. A call for a lock with a deadline takes the fewest steps.
@@ -191,9 +181,7 @@ impl<A: Allocator + Copy> History<A> {
             } }
     {
         let compact = self.records.store_forced(self.base, &forced);
-        self.entries.push_reserved(compact);
-        self.room -= 1;
-        self.memory -= 1;
+        append(&mut self.entries, &mut self.room, &mut self.memory, compact);
     }
 
     /// Appends a Grant, in room that was made for it. This allocates nothing, and is not inlined. A
@@ -211,8 +199,6 @@ impl<A: Allocator + Copy> History<A> {
         let Some(compact) = stored_forced(self.base, &grant) else {
             return self.push_forced(grant);
         };
-        self.entries.push_reserved(compact);
-        self.room -= 1;
-        self.memory -= 1;
+        append(&mut self.entries, &mut self.room, &mut self.memory, compact);
     }
 }

@@ -1,5 +1,6 @@
 ghost use Rattle.std.specs.Prelude.{◌≡◌, ◌+◌, ◌≤◌, vec_len, vec_capacity, OnOk};
 ghost use Rattle.pt_history.specs.Records.{HasRoom, KeepsParts};
+ghost use Rattle.pt_history.specs.Stored.{Appends, CanAppend};
 
 use crate::compact::{Compact, base, outer_in};
 use crate::memory::take_memory;
@@ -46,6 +47,22 @@ fn grow<A: Allocator + Copy>(
 {
     entries.reserve(many as usize)?;
     records.reserve(many)
+}
+
+// Appends a stored entry, in room and memory that there are.
+#[inline(always)]
+pub(crate) fn append<A: Allocator + Copy>(
+    entries: &mut Vec<Compact, A>,
+    room: &mut u64,
+    memory: &mut u64,
+    compact: Compact,
+)
+    requires { CanAppend entries.old room.old memory.old }
+    ensures { Appends compact entries.old entries.new room.old room.new memory.old memory.new }
+{
+    entries.push_reserved(compact);
+    *room -= 1;
+    *memory -= 1;
 }
 
 impl<A: Allocator + Copy> Model for History<A> {
@@ -195,9 +212,7 @@ impl<A: Allocator + Copy> History<A> {
     {
         self.outer += outer_in(entry);
         let compact = self.records.store(self.base, entry);
-        self.entries.push_reserved(compact);
-        self.room -= 1;
-        self.memory -= 1;
+        append(&mut self.entries, &mut self.room, &mut self.memory, compact);
     }
 
     /// Drops the entries and begins anew with this Start. The room stays, and so does the memory.

@@ -1,6 +1,6 @@
 -- A desk remains a desk after each event.
 use Rattle.std.proofs.Common.{◌≡◌, ℕ, ◌==◌, Bool, true, false, cond, List, [], Option, Some, None}
-use Rattle.std.proofs.Common.{is_some, refl, sym, ap, ◌∙◌, subst, arith}
+use Rattle.std.proofs.Common.{◌≤◌, is_some, refl, sym, ap, ◌∙◌, subst, arith}
 use Rattle.std.specs.Map.{lookup}
 use Rattle.std.specs.Prelude.{nat_eq, IsSome}
 use Rattle.std.proofs.lemmas.Bool.Decides.{nat_tests}
@@ -9,7 +9,7 @@ use Rattle.pt_types.specs.declared.time.Clock.{Clock}
 use Rattle.pt_types.specs.Limits.{most_entries}
 use Rattle.pt_model.specs.declared.entry.Event.{Event}
 use Rattle.pt_model.specs.declared.entry.Event.TheVariants as event
-use Rattle.pt_model.specs.Starts.{Start, nothing}
+use Rattle.pt_model.specs.Starts.{Start}
 use Rattle.pt_model.specs.Histories.{place, outer}
 use Rattle.pt_model.specs.Clients.{client, is_alive}
 use Rattle.pt_model.specs.Queries.{latest}
@@ -17,8 +17,9 @@ use Rattle.pt_model.specs.Legal.{LegalBehind, events_of}
 use Rattle.pt_model.specs.Steps.{IsStart, begins}
 use Rattle.pt_model.proofs.Histories.{place-behind}
 use Rattle.pt_legal.specs.declared.applied.Applied.{Applied}
-use Rattle.pt_legal.specs.Cores.{Kept, Seen, past, shown}
+use Rattle.pt_legal.specs.Cores.{IsEmpty, Kept, past, shown}
 use Rattle.pt_legal.specs.Applying.{IsWritten}
+use Rattle.pt_cells.specs.Cells.{Celled}
 use Rattle.pt_hub.specs.declared.account.Account.{Account}
 use Rattle.pt_hub.specs.Desks.{Desk, kept, account_of, awaiting, after_taking, fresh, next_answer}
 use Rattle.pt_hub.specs.Desks.{IsAccount, IsDesk, IsDeskOf, Wrote}
@@ -48,7 +49,7 @@ module _ (old new : Kept) (xs ys : List (ℕ × Account)) (d : IsDeskOf old xs) 
           starts = starts-applied old new v d.starts ok.writes;
           legal = legal-applied old new v d.starts ok.writes;
           accounts = accounts;
-          limit = ok.writes.same_limit ∙ d.limit;
+          limit = subst (λ (n : ℕ). n ≤ most_entries) (sym ok.writes.same_limit) d.limit;
           places = omega (arith, ap (λ (s : Start). s.at) ok.writes.starts, d.places);
           within = omega (
             arith,
@@ -154,9 +155,9 @@ module _ (old : Desk) (new : Kept) (ys : List (ℕ × Account)) (d : IsDesk old)
 
 -- before the first client
 pub desk-new : (k : Kept) (xs : List (ℕ × Account))
-    → k ≡ record { start = nothing; entries = []; limit = most_entries } → xs ≡ []
-    → IsDeskOf k xs
-desk-new k xs e a =
+    → IsEmpty k → xs ≡ [] → IsDeskOf k xs
+desk-new k xs none a =
+    let e = none.nothing_yet in
     record {
       starts = subst (λ (s : Kept). IsStart s.start) (sym e) begins;
       legal = subst (λ (s : Kept). LegalBehind s.start s.entries (events_of s.entries)) (sym e)
@@ -164,7 +165,7 @@ desk-new k xs e a =
       accounts = λ c. subst (λ (o : Option Account). IsAccount k c o)
           (sym (ap (lookup (nat_eq c)) a))
           (ap (λ (s : Kept). is_alive (past s) c) e);
-      limit = ap (λ (s : Kept). s.limit) e;
+      limit = none.limit;
       places = omega (arith, ap (λ (s : Kept). s.start.at) e);
       within = omega (arith, ap (λ (s : Kept). place (past s)) e);
       few = omega (
@@ -175,14 +176,14 @@ desk-new k xs e a =
     }
 
 -- a desk that has not changed
-module _ (d : Desk) (core : Seen) (rows : List (ℕ × Account)) (same : core ≡ d.core)
+module _ (d : Desk) (core : Celled) (rows : List (ℕ × Account)) (same : core ≡ d.core)
     (alike : rows ≡ d.accounts) where
-  pub desk-kept : IsDesk d → IsDeskOf (shown core) rows
+  pub desk-kept : IsDesk d → IsDeskOf (shown core.core) rows
   desk-kept k =
-      subst (λ (s : Seen). IsDeskOf (shown s) rows) (sym same)
+      subst (λ (s : Celled). IsDeskOf (shown s.core) rows) (sym same)
       (subst (λ (xs : List (ℕ × Account)). IsDeskOf (kept d) xs) (sym alike) k)
 
   pub desk-alike : (e : Desk) → d ≡ e → ◌≡◌ {A = Desk} (record { core = core; accounts = rows }) e
   desk-alike e is =
-      ap (λ (s : Seen). record { core = s; accounts = rows }) same
+      ap (λ (s : Celled). record { core = s; accounts = rows }) same
       ∙ (ap (λ (xs : List (ℕ × Account)). record { core = d.core; accounts = xs }) alike ∙ is)

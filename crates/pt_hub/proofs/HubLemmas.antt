@@ -1,15 +1,15 @@
 -- A hub remains a hub after each event.
-use Rattle.std.proofs.Common.{◌≡◌, ℕ, ◌+◌, ◌<◌, ◌≤◌, ◌^◌, [], sym, ap, ◌∙◌, subst, arith}
+use Rattle.std.proofs.Common.{◌≡◌, ℕ, ◌+◌, ◌<◌, ◌≤◌, ◌^◌, sym, ap, ◌∙◌, subst, arith}
 use Rattle.std.specs.Prelude.{Result, Ok, Err, IfOk, OnErr}
 use Rattle.pt_types.specs.declared.outcome.Refusal.{Refusal}
 use Rattle.pt_types.specs.Limits.{most_entries, most_places}
 use Rattle.pt_model.specs.declared.entry.Event.{Event}
-use Rattle.pt_model.specs.Starts.{nothing}
 use Rattle.pt_model.specs.Histories.{place, outer}
 use Rattle.pt_model.specs.Legal.{LegalBehind, events_of}
 use Rattle.pt_model.specs.Steps.{IsStart}
 use Rattle.pt_legal.specs.declared.applied.Applied.{Applied}
-use Rattle.pt_legal.specs.Cores.{Kept, Seen, past}
+use Rattle.pt_legal.specs.Cores.{IsEmpty, Kept, past}
+use Rattle.pt_cells.specs.Cells.{Celled}
 use Rattle.pt_legal.specs.Applying.{IsApplied, IsWritten, opened}
 use Rattle.pt_legal.specs.Sealing.{IsSealed}
 use Rattle.pt_hub.specs.Desks.{Desk, kept}
@@ -89,7 +89,7 @@ module _ (old : HubView) (new : Desk) (t : TallyView) (k : IsHub old t) where
   -- an answer was taken, which leaves the core unchanged
   pub hub-took : new.core ≡ old.desk.core → IsHub (record old { desk = new }) t
   hub-took same =
-      subst (λ (s : Seen). IsHub
+      subst (λ (s : Celled). IsHub
       (record old { desk = record { core = s; accounts = new.accounts } }) t) (sym same)
       (record { outer = k.outer; book = k.book; parts = k.parts; sessions = k.sessions })
 
@@ -100,11 +100,11 @@ module _ (old : HubView) (new : Desk) (t : TallyView) (k : IsHub old t) where
 
 -- before the first event
 pub hub-new : (v : HubView) (t : TallyView)
-    → kept v.desk ≡ record { start = nothing; entries = []; limit = most_entries }
+    → IsEmpty (kept v.desk)
     → v.opened ≡ 0 → v.booked ≡ t.outer → t.outer ≡ 0 → 2 ^ 63 ≤ t.parts + 1 → IsHub v t
-hub-new v t k none booked zero parts =
+hub-new v t empty none booked zero parts =
     record {
-      outer = omega (arith, zero, ap (λ (s : Kept). outer (past s)) k);
+      outer = omega (arith, zero, ap (λ (s : Kept). outer (past s)) empty.nothing_yet);
       book = booked;
       parts = omega (arith, parts);
       sessions = omega (arith, none);

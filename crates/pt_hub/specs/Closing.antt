@@ -3,14 +3,15 @@ use Rattle.std.specs.Prelude.{ℕ, ◌≡◌, ◌≢◌, ◌≤◌, ◌⊎◌, B
 use Rattle.std.specs.Prelude.{◌++◌, map, Option, Some, None, IfSome, if◌then◌else◌}
 use Rattle.pt_model.specs.declared.entry.Event.{Event}
 use Rattle.pt_model.specs.declared.entry.Event.TheVariants as event
-use Rattle.pt_model.specs.Searches.{Each}
+use Rattle.pt_model.specs.Searches.{Each, In}
 use Rattle.pt_model.specs.Answers.{outcome}
 use Rattle.pt_told.specs.OwnEvents.{own_since, placed_since, PartsAt}
 use Rattle.pt_legal.specs.Cores.{Kept, past}
 use Rattle.pt_hub.specs.declared.pass.Receipt.{Receipt}
 use Rattle.pt_hub.specs.declared.closing.CloseFault.{CloseFault}
 use Rattle.pt_hub.specs.declared.closing.CloseFault.TheVariants.{Missing, Forked, Memory}
-use Rattle.pt_hub.specs.Desks.{Desk, kept}
+use Rattle.pt_cells.specs.Cells.{SeenView}
+use Rattle.pt_hub.specs.Desks.{Desk, kept, seen_at, Meets}
 use Rattle.pt_hub.specs.Hubs.{outer_count}
 use Rattle.pt_hub.specs.Passes.{LeftView, ClockView, events_found}
 
@@ -80,3 +81,52 @@ IsCloseFault d ls cs (Missing expected found) =
 IsCloseFault d ls cs (Forked j) =
     (outer_count d ≡ events_found ls cs) × IsLeastFork (kept d) ls j
 IsCloseFault d ls cs Memory = ⊥
+
+-- what was seen, if anything, has the entry that the history has there, if it is of the cell there
+abbrev pub HasMet : Desk → Option SeenView → Type 0
+HasMet d o = IfSome o (Meets d)
+
+-- what a receipt has seen, if anything, has the entry that the history has there, if it is of the
+-- cell there
+abbrev pub IsMet : Desk → Receipt → Type 0
+IsMet d r = HasMet d r.seen
+
+-- an event that a client claims, with its place, and what the client has seen of it, if anything
+pub record Claim : Type 0 where
+  pub place : ℕ
+  pub event : Event
+  pub seen : Option SeenView
+
+-- a client's claims, with what it has seen of each: its Join, its calls and its Death  [profile]
+abbrev pub seen_claims : LeftView → List Claim
+seen_claims l =
+    record { place = l.client; event = event.Join l.priority; seen = l.joined }
+    ∷ map (λ r. record { place = r.place; event = event.Call l.client r.call; seen = r.seen })
+    l.receipts
+    ++ record { place = l.died_at; event = event.Death l.client; seen = l.seen } ∷ []
+
+-- one of a client's claims is of this place, the client doesn't claim its Death there beside it,
+-- and what the client has seen of it is of the cell that the history has there
+pub record IsSeenThere (d : Desk) (l : LeftView) (j : ℕ) : Type 0 where
+  pub claim : Claim
+  pub among : In claim (seen_claims l)
+  pub place : claim.place ≡ j
+  pub alone : l.died_at ≡ j → claim.event ≡ event.Death l.client
+  pub mine : SeenView
+  pub seen : claim.seen ≡ Some mine
+  pub theirs : SeenView
+  pub there : seen_at d j ≡ Some theirs
+  pub same_cell : theirs.cell.name ≡ mine.cell.name
+
+-- a client's entries and what it claims don't part at a place where what the client has seen is of
+-- the cell that the history has: there only the answer in a receipt can differ from the history
+abbrev pub IsHonest : Desk → LeftView → Type 0
+IsHonest d l =
+    (j : ℕ) → IsSeenThere d l j
+    → PartsAt (own_events (kept d) l.client) (claims_since (kept d) l) j → ⊥
+
+-- if the fault is that a client's record differs, this holds
+abbrev pub IfForked : CloseFault → Type 0 → Type 0
+IfForked (Forked j) P = P
+IfForked (Missing expected found) P = Unit {0}
+IfForked Memory P = Unit {0}

@@ -1,7 +1,7 @@
 -- Desks: a history with the accounts of its living clients.
 use Rattle.std.specs.Prelude.{ℕ, ◌≡◌, ◌+◌, ◌-◌, ◌≤◌, ◌==◌, ◌⊎◌, Bool, true, false, not, ◌&&◌, ◌||◌}
 use Rattle.std.specs.Prelude.{nat_lt, nat_eq, List, map, Option, Some, None, is_some, MatchOption}
-use Rattle.std.specs.Prelude.{if◌then◌else◌}
+use Rattle.std.specs.Prelude.{if◌then◌else◌, IfSome}
 use Rattle.std.specs.Map.{lookup}
 use Rattle.pt_types.specs.declared.call.Call.{Call as Asked}
 use Rattle.pt_types.specs.declared.outcome.Refusal.{Refusal}
@@ -19,18 +19,40 @@ use Rattle.pt_model.specs.Room.{needs_seal, refusal_with_seals}
 use Rattle.pt_model.specs.Legal.{LegalBehind, events_of}
 use Rattle.pt_model.specs.Steps.{IsStart}
 use Rattle.pt_told.specs.Tallies.{told_count, open_count}
-use Rattle.pt_legal.specs.Cores.{Kept, past, Seen, shown}
+use Rattle.pt_legal.specs.Cores.{Kept, past, shown}
+use Rattle.pt_legal.specs.Applying.{sealed_at}
 use Rattle.pt_legal.specs.Sealing.{sealed}
+use Rattle.pt_cells.specs.Cells.{SeenView, Celled, Extends, cells_after, seen_at as seen_in}
 use Rattle.pt_hub.specs.declared.account.Account.{Account}
 
--- what is seen of the core, and the account of each living client
+-- what is seen of the core with the cells of its entries, and the account of each living client
 pub record Desk : Type 0 where
-  pub core : Seen
+  pub core : Celled
   pub accounts : List (ℕ × Account)
 
 -- what the history begins with, the entries since, and their limit
 abbrev pub kept : Desk → Kept
-kept d = shown d.core
+kept d = shown d.core.core
+
+-- what is seen of the entry at a place, with its cell; nothing if the history has no entry there or
+-- the entry has no cell
+abbrev pub seen_at : Desk → ℕ → Option SeenView
+seen_at d j = seen_in d.core j
+
+-- what was seen of the entry at a place, if anything, is that entry with its cell
+abbrev pub IsHeld : Desk → ℕ → Option SeenView → Type 0
+IsHeld d j o = IfSome o (λ s. seen_at d j ≡ Some s)
+
+-- what was seen has the entry that the history has at its place, if it is of the cell there
+abbrev pub Meets : Desk → SeenView → Type 0
+Meets d s =
+    IfSome (seen_at d s.place) (λ t. t.cell.name ≡ s.cell.name → t.cell.entry ≡ s.cell.entry)
+
+-- the entries that stay keep their cells, and each new one has a slot for its own; no entry stays
+-- if the event needs a seal
+abbrev pub GrowsCells : Desk → Event → Desk → Type 0
+GrowsCells old v new =
+    Extends (cells_after (sealed_at (kept old) v) old.core.cells) new.core.cells
 
 -- the account of a client
 abbrev pub account_of : Desk → ℕ → Option Account
@@ -147,7 +169,7 @@ pub record IsDeskOf (k : Kept) (rows : List (ℕ × Account)) : Type 0 where
   pub starts : IsStart k.start
   pub legal : LegalBehind k.start k.entries (events_of k.entries)
   pub accounts : (c : ℕ) → IsAccount k c (lookup (nat_eq c) rows)
-  pub limit : k.limit ≡ most_entries
+  pub limit : k.limit ≤ most_entries
   pub places : k.start.at ≤ most_places
   pub within : place (past k) ≤ most_places + most_entries
   pub few : outer (past k) ≤ place (past k)

@@ -5,9 +5,8 @@ ghost use Rattle.std.specs.Prelude.{length, option_map, slice_get, nat_eq, IfOk,
 ghost use Rattle.std.specs.Prelude.{IfNone, OnOk, OnErr, IsSome};
 ghost use Rattle.std.specs.Map.{lookup};
 ghost use Rattle.pt_types.specs.Limits.{most_entries, most_places};
-ghost use Rattle.pt_types.specs.Times.{deadline_nanos};
+ghost use Rattle.pt_types.specs.Times.{deadline_nanos, is_bad_deadline};
 ghost use Rattle.pt_model.specs.declared.entry.Event.TheVariants as event;
-ghost use Rattle.pt_model.specs.Starts.{nothing};
 ghost use Rattle.pt_model.specs.Histories.{place as place_of, outer};
 ghost use Rattle.pt_model.specs.Clients.{is_alive};
 ghost use Rattle.pt_model.specs.Answers.{outcome};
@@ -17,20 +16,22 @@ ghost use Rattle.pt_model.specs.Room.{refusal_with_seals};
 ghost use Rattle.pt_model.specs.Legal.{LegalBehind, events_of};
 ghost use Rattle.pt_model.specs.Steps.{IsStart};
 ghost use Rattle.pt_told.specs.OwnEvents.{own_at, own_event};
-ghost use Rattle.pt_legal.specs.Cores.{past, shown};
+ghost use Rattle.pt_legal.specs.Cores.{IsEmpty, past, shown};
 ghost use Rattle.pt_legal.specs.Applying.{IsApplied, IsWritten};
 ghost use Rattle.pt_legal.specs.Sealing.{IsSealed, seal_refusal};
 ghost use Rattle.pt_legal.specs.Replies.{told_of};
 ghost use Rattle.pt_hub.specs.Desks.{Wrote, IsRefusedAs, kept, account_of, awaiting, after_taking};
 ghost use Rattle.pt_hub.specs.Desks.{fresh, is_blocked, call_refusal, next_answer, opened_account};
 ghost use Rattle.pt_hub.specs.Desks.{opened_accounts, renewed_all, IsOwedTheRest, IsTakenButOne};
-ghost use Rattle.pt_hub.specs.Desks.{called};
+ghost use Rattle.pt_hub.specs.Desks.{called, seen_at, GrowsCells, Meets};
+ghost use Rattle.pt_cells.specs.Cells.{AreCells, Extends};
 
 use crate::account::{Account, Accounts};
+use pt_cells::{Celled, Seen};
 use pt_legal::{Applied, LegalHistory, Reply};
 use pt_model::{Entry, Event};
 use pt_types::{Call, ClientId, Clock, Deadline, Moment, Outcome, Priority, Refusal};
-use std::alloc::Allocator;
+use std::alloc::{Allocator, Global};
 use std::marker::Model;
 
 // Returns the event of an entry if the client joins, makes a call or dies by it.
@@ -59,7 +60,7 @@ fn call_of(event: Event) -> Call
 /// The core with an account for each living client.
 #[derive(Drop)]
 pub struct Desk<C: LegalHistory, A: Allocator + Copy> {
-    core: C,
+    core: Celled<C, A>,
     accounts: Accounts<A>,
 }
 
@@ -68,21 +69,22 @@ impl<C: LegalHistory, A: Allocator + Copy> Model for Desk<C, A> {
 
     ghost Value = { Seen };
 
-    ghost view = { λ d. record { core = C.seen d.core; accounts = d.accounts.entries } };
+    ghost view = { λ d. record { core = d.core; accounts = d.accounts.entries } };
 
     ghost invariant = { λ d.
-        IsDesk (record { core = C.seen d.core; accounts = d.accounts.entries }) };
+        IsDesk (record { core = d.core; accounts = d.accounts.entries }) };
 }
 
 impl<C: LegalHistory, A: Allocator + Copy> Desk<C, A> {
-    /// Creates a desk over an empty core, so without accounts.
-    pub fn new(core: C, alloc: A) -> Desk<C, A>
-        requires { shown (C.seen core)
-            ≡ record { start = nothing; entries = []; limit = most_entries } }
-        ensures { (result.core ≡ C.seen core) × (result.accounts ≡ []) }
+    /// Creates a desk over an empty core, so without accounts. The cells of its entries are made in
+    /// `heap`. Without one, no cells are made, and nothing is seen.
+    pub fn new(core: C, alloc: A, heap: Option<Global>) -> Desk<C, A>
+        requires { IsEmpty (shown (C.seen core)) }
+        ensures { (result.core ≡ record { core = C.seen core; cells = [] })
+            × (result.accounts ≡ []) }
     {
         Desk {
-            core,
+            core: Celled::new(core, alloc, heap),
             accounts: Accounts::new(alloc),
         }
     }
@@ -93,6 +95,7 @@ impl<C: LegalHistory, A: Allocator + Copy> Desk<C, A> {
             IsApplied (kept self.old) (event.Join priority) (kept self.new) applied) }
         ensures account { OnOk result (Wrote (opened_accounts self.old (event.Join priority))
             self.new.accounts (place_of (past (kept self.old))) (Some fresh)) }
+        ensures cells { OnOk result (GrowsCells self.old (event.Join priority) self.new) }
         ensures err { IfErr result (IsRefusedAs (refusal_with_seals
             (kept self.old).limit (past (kept self.old)) (event.Join priority))) }
         ensures unchanged { OnErr result (self.new ≡ self.old) }
@@ -149,6 +152,7 @@ impl<C: LegalHistory, A: Allocator + Copy> Desk<C, A> {
         ensures back { IfOk result (λ r. r.1 ≡ call) }
         ensures account { OnOk result (Wrote (opened_accounts self.old (event.Call c call))
             self.new.accounts c (awaiting (opened_account self.old (event.Call c call) c))) }
+        ensures cells { OnOk result (GrowsCells self.old (event.Call c call) self.new) }
         ensures err { IfErr result (IsRefusedAs (call_refusal self.old c call)) }
         ensures unchanged { OnErr result (self.new ≡ self.old) }
     {
@@ -202,6 +206,7 @@ impl<C: LegalHistory, A: Allocator + Copy> Desk<C, A> {
             IsWritten (kept self.old) (event.Death c) (kept self.new) applied) }
         ensures unsealed { IfSome result (λ applied. applied.sealed ≡ None) }
         ensures account { IsSome result → Wrote self.old.accounts self.new.accounts c None }
+        ensures cells { IsSome result → Extends self.old.core.cells self.new.core.cells }
         ensures none { IfNone result ((is_alive (past (kept self.old)) c ≡ false)
             × (self.new ≡ self.old)) }
     {
@@ -222,6 +227,7 @@ impl<C: LegalHistory, A: Allocator + Copy> Desk<C, A> {
             (event.Moment clock moment) (kept self.new) applied) }
         ensures accounts { OnOk result (self.new.accounts
             ≡ opened_accounts self.old (event.Moment clock moment)) }
+        ensures cells { OnOk result (GrowsCells self.old (event.Moment clock moment) self.new) }
         ensures err { IfErr result (λ refusal. refusal ≡ Refusal.Enomem) }
         ensures unchanged { OnErr result (self.new ≡ self.old) }
     {
@@ -239,6 +245,7 @@ impl<C: LegalHistory, A: Allocator + Copy> Desk<C, A> {
     pub fn seal(&mut self) -> Result<u64, Refusal>
         ensures ok { IfOk result (λ at. IsSealed (kept self.old) (kept self.new) at) }
         ensures accounts { OnOk result (self.new.accounts ≡ renewed_all self.old.accounts) }
+        ensures cells { OnOk result (self.new.core.cells ≡ []) }
         ensures err { IfErr result (λ refusal. refusal ≡ seal_refusal (kept self.old)) }
         ensures unchanged { OnErr result (self.new ≡ self.old) }
     {
@@ -260,11 +267,12 @@ impl<C: LegalHistory, A: Allocator + Copy> Desk<C, A> {
         self.core.would_refuse(event)
     }
 
-    /// Returns the least deadline by this clock of the open calls that are not moved, as it was
-    /// written.
+    /// Returns the least deadline by this clock of the open calls that are not moved, as the
+    /// call gave it: with nanoseconds below 1,000,000,000.
     pub fn least_deadline(&self, clock: Clock) -> Option<Deadline>
-        ensures { option_map deadline_nanos result
+        ensures value { option_map deadline_nanos result
             ≡ least_deadline_in (past (kept self.now)) clock }
+        ensures time { IfSome result (λ deadline. is_bad_deadline deadline ≡ false) }
     {
         self.core.least_deadline(clock)
     }
@@ -299,6 +307,31 @@ impl<C: LegalHistory, A: Allocator + Copy> Desk<C, A> {
             → result ≡ slice_get (kept self.now).entries (place - (kept self.now).start.at) }
     {
         self.core.entry(place)
+    }
+
+    /// Returns the entry at a place with its cell. Returns `None` if the history has no entry
+    /// there, if the entry's cell refused it, and if one more owner of the cell is refused.
+    pub fn seen(&self, place: u64) -> Option<Seen>
+        ensures there { IfSome result (λ s. seen_at self.now place ≡ Some s) }
+        ensures entry { IfSome result (λ s. slice_get (kept self.now).entries
+            (place - (kept self.now).start.at) ≡ Some s.cell.entry) }
+    {
+        self.core.seen(place)
+    }
+
+    /// Proves that each entry has a cell of its own, unless the cell refused it.
+    pub fn law_cells(&self)
+        ensures { AreCells (kept self.now).entries self.now.core.cells }
+    {
+        self.core.law_cells();
+    }
+
+    /// Proves that an entry that was seen is that of the history, if its cell is the one that the
+    /// history has at the entry's place.
+    pub fn meet(&self, seen: &Seen)
+        ensures { Meets self.now seen.now }
+    {
+        self.core.meet(seen);
     }
 
     /// Returns the place of the first entry since the history was sealed.

@@ -4,34 +4,35 @@ ghost use Rattle.std.specs.Prelude.{◌≡◌, ◌+◌, ◌<◌, ◌≤◌, ◌^
 ghost use Rattle.std.specs.Prelude.{None, false, true, length, option_map};
 ghost use Rattle.std.specs.Prelude.{slice_get, IfOk, IfErr, IfSome, IfNone, OnOk, OnErr};
 ghost use Rattle.std.specs.Map.{lookup};
-ghost use Rattle.pt_types.specs.Limits.{most_entries};
-ghost use Rattle.pt_types.specs.Times.{deadline_nanos};
+ghost use Rattle.pt_types.specs.Times.{deadline_nanos, is_bad_deadline};
 ghost use Rattle.pt_model.specs.declared.entry.Event.TheVariants as event;
 ghost use Rattle.pt_model.specs.Searches.{Each};
-ghost use Rattle.pt_model.specs.Starts.{nothing};
 ghost use Rattle.pt_model.specs.Clients.{is_alive};
 ghost use Rattle.pt_model.specs.Queries.{answers_behind};
 ghost use Rattle.pt_model.specs.Queries.{least_deadline as least_deadline_in};
 ghost use Rattle.pt_model.specs.Room.{refusal_with_seals};
 ghost use Rattle.pt_model.specs.Legal.{LegalBehind, events_of};
-ghost use Rattle.pt_legal.specs.Cores.{past, shown};
+ghost use Rattle.pt_legal.specs.Cores.{IsEmpty, past, shown};
 ghost use Rattle.pt_legal.specs.Replies.{told_of};
 ghost use Rattle.pt_legal.specs.Sealing.{seal_refusal};
-ghost use Rattle.pt_hub.specs.Desks.{IsRefusedAs, kept, one_if};
+ghost use Rattle.pt_hub.specs.Desks.{IsHeld, IsRefusedAs, kept, one_if, seen_at};
 ghost use Rattle.pt_hub.specs.Hubs.{Joins, Ticks, Seals, Dies, next_place};
 ghost use Rattle.pt_hub.specs.Hubs.{outer_count, has_ended, Opens, IsNotOpened, EndsInput, Closes};
 ghost use Rattle.pt_hub.specs.Hubs.{Fits};
 ghost use Rattle.pt_hub.specs.Passes.{events_found};
-ghost use Rattle.pt_hub.specs.Closing.{Holds, IsCloseFault};
+ghost use Rattle.pt_hub.specs.Closing.{Holds, IfForked, IsCloseFault, IsHonest};
 
 use crate::closing::{CloseFault, CloseRefused, Closed, clock_events, left_events};
 use crate::desk::Desk;
 use crate::forks::least_fork;
+use crate::honesty::law_all_honest;
 use crate::marks;
 use crate::marks::Marks;
 use crate::pass::{ClockPass, Left, Pass, Tick};
+use crate::receipts::seen_after;
 use crate::tally::Tally;
 use pt_bells::SessionId;
+use pt_cells::Seen;
 use pt_legal::{LegalHistory, Reply};
 use pt_model::Event;
 use pt_types::{ClientId, Clock, Deadline, Moment, Priority, Refusal};
@@ -88,18 +89,23 @@ impl<C: LegalHistory, L: Ledger, A: Allocator + Copy> Drop for Hub<C, L, A> {
 }
 
 impl<C: LegalHistory, L: Ledger, A: Allocator + Copy> Hub<C, L, A> {
-    /// Creates a hub over an empty core, with its own ledger, and a clock.
-    pub fn new(core: C, alloc: A, blank: Blank) -> (Hub<C, L, A>, ClockPass<L, A>)
-        requires empty { shown (C.seen core)
-            ≡ record { start = nothing; entries = []; limit = most_entries } }
+    /// Creates a hub over an empty core, with its own ledger, and a clock. The cells of its entries
+    /// are made in `heap`. Without one, no cells are made, and nothing is seen.
+    pub fn new(
+        core: C,
+        alloc: A,
+        heap: Option<Global>,
+        blank: Blank,
+    ) -> (Hub<C, L, A>, ClockPass<L, A>)
+        requires empty { IsEmpty (shown (C.seen core)) }
         requires name { (blank.name ≡ L.name) × (blank.parts ≡ L.parts) }
         requires parts { blank.parts ≡ 2 ^ 63 }
-        ensures core { result.0.desk.core ≡ C.seen core }
+        ensures core { result.0.desk.core ≡ record { core = C.seen core; cells = [] } }
         ensures hub { (result.0.desk.accounts ≡ []) × (result.0.marks ≡ [])
             × (result.0.opened ≡ 0) × (result.0.booked ≡ 0) }
         ensures clock { result.1.moments ≡ [] }
     {
-        let desk = Desk::new(core, alloc);
+        let desk = Desk::new(core, alloc, heap);
         let mut tally = Tally::open(blank);
         let share = tally.part();
         let hub = Hub {
@@ -129,9 +135,11 @@ impl<C: LegalHistory, L: Ledger, A: Allocator + Copy> Hub<C, L, A> {
             Ok(_) => {
                 let mut share = self.tally.part();
                 self.tally.count(&mut share);
+                let seen = self.desk.seen(place);
                 Ok(Pass {
                     client: ClientId(place),
                     priority,
+                    seen,
                     receipts: Vec::new(self.alloc),
                     share,
                 })
@@ -146,11 +154,14 @@ impl<C: LegalHistory, L: Ledger, A: Allocator + Copy> Hub<C, L, A> {
             → Dies self.old pass.client self.new }
         ensures dead { is_alive (past (kept self.old.desk)) pass.client ≡ false
             → self.new ≡ self.old }
+        ensures seen { IsHeld self.new.desk (next_place self.old.desk) result.seen }
         ensures left { result ≡ record {
           client = pass.client;
           priority = pass.priority;
+          joined = pass.seen;
           receipts = pass.receipts;
           died_at = next_place self.old.desk;
+          seen = result.seen;
           deaths = one_if (is_alive (past (kept self.old.desk)) pass.client);
         } }
     {
@@ -158,21 +169,27 @@ impl<C: LegalHistory, L: Ledger, A: Allocator + Copy> Hub<C, L, A> {
         let Pass {
             client,
             priority,
+            seen: joined,
             receipts,
             mut share,
         } = pass;
-        let deaths = match self.desk.die(client) {
+        let (deaths, seen) = match self.desk.die(client) {
             Some(_) => {
                 self.tally.count(&mut share);
-                1
+                (
+                    1,
+                    seen_after(&self.desk, client.0, receipts.as_slice(), died_at),
+                )
             }
-            None => 0,
+            None => (0, None),
         };
         Left {
             client,
             priority,
+            joined,
             receipts,
             died_at,
+            seen,
             deaths,
             share,
         }
@@ -221,11 +238,12 @@ impl<C: LegalHistory, L: Ledger, A: Allocator + Copy> Hub<C, L, A> {
         self.desk.seal()
     }
 
-    /// Returns the least deadline by this clock of the open calls that are not moved, as it was
-    /// written.
+    /// Returns the least deadline by this clock of the open calls that are not moved, as the
+    /// call gave it: with nanoseconds below 1,000,000,000.
     pub fn least_deadline(&self, clock: Clock) -> Option<Deadline>
-        ensures { option_map deadline_nanos result
+        ensures value { option_map deadline_nanos result
             ≡ least_deadline_in (past (kept self.now.desk)) clock }
+        ensures time { IfSome result (λ deadline. is_bad_deadline deadline ≡ false) }
     {
         self.desk.least_deadline(clock)
     }
@@ -295,6 +313,14 @@ impl<C: LegalHistory, L: Ledger, A: Allocator + Copy> Hub<C, L, A> {
         self.desk.answer_since(place, index)
     }
 
+    /// Returns the entry at a place with its cell. Returns `None` if the history has no entry
+    /// there, if the entry's cell refused it, and if one more owner of the cell is refused.
+    pub fn seen(&self, place: u64) -> Option<Seen>
+        ensures { IfSome result (λ s. seen_at self.now.desk place ≡ Some s) }
+    {
+        self.desk.seen(place)
+    }
+
     /// Returns the allocator that the hub was made with.
     pub fn allocator(&self) -> A {
         self.alloc
@@ -311,6 +337,8 @@ impl<C: LegalHistory, L: Ledger, A: Allocator + Copy> Hub<C, L, A> {
     /// Returns why the hub doesn't close on these, if it doesn't.
     fn close_fault(&self, lefts: &[Left<L, A>], clocks: &[ClockPass<L, A>]) -> Option<CloseFault>
         ensures fault { IfSome result (IsCloseFault self.now.desk lefts.now clocks.now) }
+        ensures honest { IfSome result (λ f.
+            IfForked f (Each (IsHonest self.now.desk) lefts.now)) }
         ensures none { IfNone result (
             (outer_count self.now.desk ≡ events_found lefts.now clocks.now)
             × Each (Holds (kept self.now.desk)) lefts.now) }
@@ -320,6 +348,7 @@ impl<C: LegalHistory, L: Ledger, A: Allocator + Copy> Hub<C, L, A> {
         if u128::from(expected) != found {
             return Some(CloseFault::Missing { expected, found });
         }
+        law_all_honest(&self.desk, lefts);
         match least_fork(&self.desk, lefts) {
             Some(place) => Some(CloseFault::Forked { place }),
             None => None,
@@ -342,6 +371,8 @@ impl<C: LegalHistory, L: Ledger, A: Allocator + Copy> Hub<C, L, A> {
         ensures holds { OnOk result (Each (Holds (kept self.desk)) lefts.items) }
         ensures fault { IfErr result (λ e.
             IsCloseFault self.desk lefts.items clocks.items e.fault) }
+        ensures honest { IfErr result (λ e.
+            IfForked e.fault (Each (IsHonest self.desk) lefts.items)) }
         ensures handed { IfErr result (λ e. (e.hub ≡ self) × (e.left ≡ lefts)
             × (e.clock ≡ clocks)) }
     {

@@ -1,16 +1,19 @@
 //! The shares of the ledger that a client, a dead client and a clock hold, and what they did.
 
+use pt_cells::Seen;
 use pt_types::{Call, ClientId, Clock, Moment, Outcome, Priority};
 use std::alloc::{Allocator, Global};
 use std::marker::Model;
 use std::sync::ledger::{Ledger, Share};
 
-/// A call that a client made: its place, and its answer once it was taken.
+/// A call that a client made: its place, its answer once it was taken, and its entry with its cell,
+/// unless the cell or one more owner of it was refused.
 #[derive(Drop)]
 pub struct Receipt {
     pub place: u64,
     pub call: Call,
     pub answer: Option<Outcome>,
+    pub seen: Option<Seen>,
 }
 
 /// A call that was sent: its place, and whether it is answered already.
@@ -39,48 +42,60 @@ pub struct Tick {
 pub struct Pass<L: Ledger, A: Allocator + Copy = Global> {
     pub(crate) client: ClientId,
     pub(crate) priority: Priority,
+    pub(crate) seen: Option<Seen>,
     pub(crate) receipts: Vec<Receipt, A>,
     pub(crate) share: Share<L>,
 }
 
 impl<L: Ledger, A: Allocator + Copy> Model for Pass<L, A> {
     ghost use Rattle.std.specs.Prelude.{◌≡◌, ◌+◌, vec_len};
-    ghost use Rattle.pt_hub.specs.Passes.{PassView};
+    ghost use Rattle.pt_hub.specs.Passes.{PassView, AreReceipts, IsJoinOf};
 
     ghost Value = { PassView };
 
-    ghost view = { λ p.
-        record { client = p.client; priority = p.priority; receipts = p.receipts.items } };
+    ghost view = { λ p. record {
+      client = p.client;
+      priority = p.priority;
+      seen = p.seen;
+      receipts = p.receipts.items;
+    } };
 
-    ghost invariant = { λ p. (p.share.parts ≡ 1) × (p.share.amount ≡ 1 + vec_len p.receipts) };
+    ghost invariant = { λ p. (p.share.parts ≡ 1) × (p.share.amount ≡ 1 + vec_len p.receipts)
+        × AreReceipts p.client p.receipts.items × IsJoinOf p.client p.priority p.seen };
 }
 
 /// What a client leaves. Contracts also see the place of its Death.
 pub struct Left<L: Ledger, A: Allocator + Copy = Global> {
     pub(crate) client: ClientId,
     pub(crate) priority: Priority,
+    pub(crate) joined: Option<Seen>,
     pub(crate) receipts: Vec<Receipt, A>,
     pub(crate) died_at: u64,
+    pub(crate) seen: Option<Seen>,
     pub(crate) deaths: u64,
     pub(crate) share: Share<L>,
 }
 
 impl<L: Ledger, A: Allocator + Copy> Model for Left<L, A> {
     ghost use Rattle.std.specs.Prelude.{◌≡◌, ◌+◌, ◌≤◌, vec_len};
-    ghost use Rattle.pt_hub.specs.Passes.{LeftView};
+    ghost use Rattle.pt_hub.specs.Passes.{LeftView, AreReceipts, IsJoinOf, IsDeathOf};
 
     ghost Value = { LeftView };
 
     ghost view = { λ p. record {
       client = p.client;
       priority = p.priority;
+      joined = p.joined;
       receipts = p.receipts.items;
       died_at = p.died_at;
+      seen = p.seen;
       deaths = p.deaths;
     } };
 
     ghost invariant = { λ p. (p.share.parts ≡ 1) × (p.deaths ≤ 1)
-        × (p.share.amount ≡ 1 + p.deaths + vec_len p.receipts) };
+        × (p.share.amount ≡ 1 + p.deaths + vec_len p.receipts)
+        × AreReceipts p.client p.receipts.items × IsJoinOf p.client p.priority p.joined
+        × IsDeathOf p.client p.receipts.items p.died_at p.seen };
 }
 
 // Not derived, so that code that drops what clients leave proves nothing of its parts.
@@ -89,8 +104,10 @@ impl<L: Ledger, A: Allocator + Copy> Drop for Left<L, A> {
         let Left {
             client: _,
             priority: _,
+            joined: _,
             receipts: _,
             died_at: _,
+            seen: _,
             deaths: _,
             share: _,
         } = self;
@@ -147,10 +164,30 @@ impl<L: Ledger, A: Allocator + Copy> Pass<L, A> {
     {
         self.receipts.as_slice()
     }
+
+    /// Returns the entry of the client's Join with its cell, unless the cell or one more owner of
+    /// it was refused.
+    pub fn seen(&self) -> &Option<Seen>
+        ensures { result.now ≡ self.now.seen }
+    {
+        &self.seen
+    }
 }
 
 impl<L: Ledger, A: Allocator + Copy> Left<L, A> {
     ghost use Rattle.std.specs.Prelude.{◌≡◌};
+    ghost use Rattle.pt_hub.specs.Passes.{AreReceipts, IsJoinOf, IsDeathOf};
+
+    /// Proves that the client has seen the entries of its Join, its calls and its Death, if
+    /// anything, and that their places rise.
+    pub(crate) fn law_own(&self)
+        ensures receipts { AreReceipts self.now.client self.now.receipts }
+        ensures join { IsJoinOf self.now.client self.now.priority self.now.joined }
+        ensures death { IsDeathOf self.now.client self.now.receipts self.now.died_at
+            self.now.seen }
+    {
+        let _ = &self.client;
+    }
 
     /// Returns the client's number.
     pub fn client(&self) -> ClientId
@@ -171,6 +208,22 @@ impl<L: Ledger, A: Allocator + Copy> Left<L, A> {
         ensures { result.now ≡ self.now.receipts }
     {
         self.receipts.as_slice()
+    }
+
+    /// Returns the entry of the client's Join with its cell, unless the cell or one more owner of
+    /// it was refused.
+    pub fn joined(&self) -> &Option<Seen>
+        ensures { result.now ≡ self.now.joined }
+    {
+        &self.joined
+    }
+
+    /// Returns the entry of the client's Death with its cell, unless the cell or one more owner of
+    /// it was refused.
+    pub fn seen(&self) -> &Option<Seen>
+        ensures { result.now ≡ self.now.seen }
+    {
+        &self.seen
     }
 
     /// Returns the place of the client's Death.

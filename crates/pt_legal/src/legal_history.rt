@@ -1,13 +1,13 @@
 ghost use Rattle.std.specs.Prelude.{◌≡◌, ◌≤◌, ◌<◌, ◌-◌, ◌^◌, ℕ, None, length, drop, slice_get};
-ghost use Rattle.std.specs.Prelude.{option_map, true, IfOk, IfErr, IsOk, OnErr};
+ghost use Rattle.std.specs.Prelude.{option_map, true, false, IfOk, IfErr, IfSome, IsOk, OnErr};
 ghost use Rattle.pt_types.specs.Limits.{most_entries};
-ghost use Rattle.pt_types.specs.Times.{deadline_nanos};
+ghost use Rattle.pt_types.specs.Times.{deadline_nanos, is_bad_deadline};
 ghost use Rattle.pt_model.specs.Histories.{place as place_of};
 ghost use Rattle.pt_model.specs.Clients.{is_alive};
 ghost use Rattle.pt_model.specs.Answers.{outcome as outcome_in, replies_behind};
 ghost use Rattle.pt_model.specs.Queries.{answers_behind, answer_of as answer_in};
 ghost use Rattle.pt_model.specs.Queries.{least_deadline as least_deadline_in};
-ghost use Rattle.pt_model.specs.Room.{refusal_with_seals};
+ghost use Rattle.pt_model.specs.Room.{need as need_in, refusal_with_seals};
 ghost use Rattle.pt_model.specs.Legal.{LegalBehind, events_of};
 ghost use Rattle.pt_model.specs.Steps.{IsStart};
 ghost use Rattle.pt_legal.specs.Cores.{Seen, past, shown};
@@ -89,10 +89,11 @@ pub trait LegalHistory: Drop {
         ensures { result ≡ outcome_in (past (shown (seen self.now))) place };
 
     /// Returns the least deadline by this clock among the open calls that were not moved, as the
-    /// call gave it.
+    /// call gave it: with nanoseconds below 1,000,000,000.
     fn least_deadline(&self, clock: Clock) -> Option<Deadline>
-        ensures { option_map deadline_nanos result
-            ≡ least_deadline_in (past (shown (seen self.now))) clock };
+        ensures value { option_map deadline_nanos result
+            ≡ least_deadline_in (past (shown (seen self.now))) clock }
+        ensures time { IfSome result (λ deadline. is_bad_deadline deadline ≡ false) };
 
     /// Returns the place of the next entry.
     fn len(&self) -> u64
@@ -102,6 +103,12 @@ pub trait LegalHistory: Drop {
             (events_of (seen self.now).entries) }
         ensures within { length (seen self.now).entries ≤ (seen self.now).limit }
         ensures limit { (seen self.now).limit ≤ most_entries };
+
+    /// Returns the number of entries that are reserved: for what must follow, and for the Death of
+    /// each living client.
+    fn need(&self) -> u64
+        ensures value { result ≡ need_in (past (shown (seen self.now))) }
+        ensures within { result ≤ most_entries };
 
     /// Returns the place of the first entry since the history was last sealed.
     fn first(&self) -> u64

@@ -8,7 +8,6 @@ use Rattle.std.proofs.lemmas.Bool.Decides.{nat_tests}
 use Rattle.pt_types.specs.Limits.{most_priority}
 use Rattle.pt_waitq.specs.declared.waiter.Waiter.{Waiter}
 use Rattle.pt_waitq.specs.Queues.{In as Among, IsInKeyOrder, comes_before, queues_of}
-use Rattle.pt_model.specs.declared.entry.Entry.TheVariants.{Grant, Trip}
 use Rattle.pt_model.specs.Searches.{In}
 use Rattle.pt_model.specs.Histories.{History}
 use Rattle.pt_model.specs.declared.waiting_call.WaitingCall.{WaitingCall}
@@ -18,30 +17,14 @@ use Rattle.pt_model.specs.declared.waiting_call.Role.TheVariants.{ForRead, ForWr
 use Rattle.pt_model.specs.WaitingCall.{is_arrival, is_wait, is_write}
 use Rattle.pt_model.specs.Answers.{open_calls}
 use Rattle.pt_model.specs.Moves.{moved, at_object}
-use Rattle.pt_model.specs.Grants.{grant_outcome}
-use Rattle.pt_model.specs.Forced.{service}
 use Rattle.pt_model.specs.Steps.{Follows}
 use Rattle.pt_model.proofs.Lists.{In-filter, filter-in}
 use Rattle.pt_model.proofs.Seats.{housed}
-use Rattle.pt_records.specs.declared.clients.Open.{Open}
 use Rattle.pt_records.specs.Arrivals.{AreArrivals, AreInOrder}
-use Rattle.pt_records.specs.Callers.{opens_of}
-use Rattle.pt_state.specs.declared.state.State.{State}
-use Rattle.pt_state.specs.Adds.{past}
-use Rattle.pt_state.specs.Reads.{AreTables}
-use Rattle.pt_state.specs.Serving.{called}
-use Rattle.pt_state.proofs.ServingFinds.{are-open}
 use Rattle.pt_machine.specs.Queued.{IsQueued, arriving, waiter, waiter_by}
 use Rattle.pt_machine.proofs.Membership.{in-list, in-queue}
 use Rattle.pt_machine.proofs.QueuedOut.{arrived, barrier-of}
 use Rattle.pt_machine.proofs.WaitMoves.{plain-stays}
-
--- the entry that serves an arrival is the Trip of its barrier
-pub service-trip : (h : History) (o : Open) → is_arrival (called o).role ≡ true
-    → service h (called o) ≡ Trip o.call.object
-service-trip h o arrival =
-    ap (λ b. cond b (Trip o.call.object)
-    (Grant o.call.place (grant_outcome h (called o)))) arrival
 
 -- an arrival as it waits, which was not moved
 module _ (h : History) (f : Follows h) (w : WaitingCall) (i : In w (open_calls h))
@@ -151,12 +134,3 @@ module _ (h : History) (u : WaitingCall) (queue : ℕ → List Waiter) (admitted
             );
         in_order = rising (queue u.object) (k.members.in_order u.object) called-by;
       }
-
--- the queue of a barrier at which a call waits has the barrier's arrivals
-pub are-arrivals : {A : Type 0} (s : State A) (o : Open) (queue : ℕ → List Waiter)
-    (admitted made : ℕ → Bool) → AreTables s → In o (opens_of s.clients)
-    → is_arrival (called o).role ≡ true → IsQueued (past s) (queues_of queue admitted made)
-    → AreArrivals (past s) o.call.object (queue o.call.object)
-are-arrivals s o queue admitted made read known arrival k =
-    arrivals-queued (past s) (called o) queue admitted made read.follows
-    ((are-open (past s) s.clients read.follows read.callers).known o known).0 arrival k

@@ -121,10 +121,6 @@ module _ {A : Type 0} (old mid : State A) (c : ℕ) (call : Asked)
         ∙ call_of-open g (ready.read.follows, ready.step) its
         (comes-open h ready.read.follows c call had ready.step)))
 
-    pub row-found : (found : Option Open) → found ≡ open_in (client_value mid.clients c)
-        → IsSome found
-    row-found found e = there called found its (in_row found e)
-
     module _ (o : Open) (found : Some o ≡ open_in (client_value mid.clients c)) where
       is_it : called o ≡ its
       is_it = ap (λ x. unwrap_or x its) (in_row (Some o) found)

@@ -22,14 +22,10 @@ use Rattle.pt_state.proofs.StepLemmas.{called as called_by}
 use Rattle.pt_touched.specs.Candidates.{entering, entering_by}
 use Rattle.pt_touched.specs.Touched.{touched, touched_after, touched_by}
 use Rattle.pt_touched.proofs.Candidates.{begins_untouched}
-use Rattle.pt_state.specs.declared.forced.Forced.{Forced}
-use Rattle.pt_state.specs.declared.forced.Forced.TheVariants.{Serve, Yield as Yields}
-use Rattle.pt_state.specs.declared.forced.Forced.TheVariants.{Expire as Expires}
 use Rattle.pt_state.specs.declared.state.State.{State}
-use Rattle.pt_state.specs.Adds.{Adds, Stays, past}
-use Rattle.pt_state.specs.Serving.{called, entry_of}
+use Rattle.pt_state.specs.Adds.{Adds, past}
 use Rattle.pt_machine.specs.LastTouched.{IsTouched}
-use Rattle.pt_machine.proofs.QueuedSame.{past-adds, past-stays}
+use Rattle.pt_machine.proofs.QueuedSame.{past-adds}
 
 -- the mutex that a new wait names exists
 pub awaited-there : (h : History) (c : ℕ) (call : Asked) (n m : List ℕ) (d : Option Timespec)
@@ -63,7 +59,8 @@ forced-enters (Trip b) n before = refl
 forced-enters (Yield m) n before = refl
 forced-enters (Expire j) n before = refl
 
-service-forced : (h : History) (w : WaitingCall) → is_forced (service h w) ≡ true
+-- what serves a call is a forced entry
+pub service-forced : (h : History) (w : WaitingCall) → is_forced (service h w) ≡ true
 service-forced h w = go (is_arrival w.role)
   where
     go : (b : Bool) → is_forced (cond b (Trip w.object) (Grant w.place (grant_outcome h w))) ≡ true
@@ -80,11 +77,6 @@ still-touched h w e = go (is_arrival w.role) e
     go true n = absurd cc
     go false n = refl
 
-entry-forced : (h : History) (x : Forced) → is_forced (entry_of h x) ≡ true
-entry-forced h (Serve o) = service-forced h (called o)
-entry-forced h (Yields m) = refl
-entry-forced h (Expires o) = refl
-
 module _ {A : Type 0} (old new : State A) (o c : Option ℕ) where
   -- after an outer entry
   pub touched-outer : (e : Entry) → Adds old e new → is_forced e ≡ false
@@ -98,21 +90,11 @@ module _ {A : Type 0} (old new : State A) (o c : Option ℕ) where
       })
 
   -- after a forced entry
-  pub touched-forced : (x : Forced) → Adds old (entry_of (past old) x) new
-      → o ≡ touched (past old ▷ entry_of (past old) x) → c ≡ entering (past old)
-      → IsTouched (past new) o c
-  touched-forced x a t k =
-      subst (λ (h : History). IsTouched h o c) (sym (past-adds old new (entry_of (past old) x) a))
-      (record {
-        touches = t;
-        enters = k ∙ forced-enters (entry_of (past old) x) (entry-forced (past old) x)
-            (entering (past old));
-      })
-
-  -- if no entry was pushed
-  pub touched-stays : Stays old new → IsTouched (past old) o c → IsTouched (past new) o c
-  touched-stays s k =
-      subst (λ (h : History). IsTouched h o c) (sym (past-stays old new s)) k
+  pub touched-forced : (e : Entry) → is_forced e ≡ true → Adds old e new
+      → o ≡ touched (past old ▷ e) → c ≡ entering (past old) → IsTouched (past new) o c
+  touched-forced e n a t k =
+      subst (λ (h : History). IsTouched h o c) (sym (past-adds old new e a))
+      (record { touches = t; enters = k ∙ forced-enters e n (entering (past old)) })
 
 -- before the first entry
 pub touched-begin : (h : History) → h ≡ Begin nothing → IsTouched h None None

@@ -1,31 +1,25 @@
 -- NeedUses: how many reserved entries a forced entry uses.
 use Rattle.std.proofs.Common.{◌≡◌, ℕ, ◌+◌, ◌-◌, ◌*◌, ◌≤◌, Bool, true, false, cond, ◌&&◌, length}
-use Rattle.std.proofs.Common.{List, Option, Some, None, is_some, is_none, option_map, refl, sym, ap}
+use Rattle.std.proofs.Common.{List, Some, is_some, is_none, refl, sym, ap}
 use Rattle.std.proofs.Common.{◌∙◌, subst, arith}
-use Rattle.pt_types.specs.declared.call.ObjectKind.{ObjectKind}
-use Rattle.pt_types.specs.declared.call.ObjectKind.TheVariants as kind
 use Rattle.pt_types.specs.declared.outcome.Outcome.{Outcome}
 use Rattle.pt_types.specs.MutexTable.{is_acquired}
-use Rattle.pt_types.specs.Operations.{class_of}
-use Rattle.pt_types.specs.declared.operations.ObjectClass.TheVariants.{Barrier as BarrierClass}
 use Rattle.pt_model.specs.declared.entry.Entry.TheVariants.{Grant, Trip, Yield}
 use Rattle.pt_model.specs.Searches.{In}
 use Rattle.pt_model.specs.Histories.{History, ◌▷◌}
-use Rattle.pt_model.specs.Objects.{is_class, is_robust, kind_of}
+use Rattle.pt_model.specs.Objects.{is_robust, kind_of}
 use Rattle.pt_model.specs.declared.waiting_call.WaitingCall.{WaitingCall}
-use Rattle.pt_model.specs.declared.waiting_call.Move.{Move}
 use Rattle.pt_model.specs.declared.waiting_call.Role.{Role}
 use Rattle.pt_model.specs.declared.waiting_call.Role.TheVariants.{ForMutex, ForRead, ForWrite}
 use Rattle.pt_model.specs.declared.waiting_call.Role.TheVariants.{ForBarrier, ForCond}
 use Rattle.pt_model.specs.WaitingCall.{is_arrival, is_wait, mutex_of}
 use Rattle.pt_model.specs.Answers.{at_barrier, open_calls}
-use Rattle.pt_model.specs.Moves.{is_moved, moved}
+use Rattle.pt_model.specs.Moves.{is_moved}
 use Rattle.pt_model.specs.Mutexes.{owner}
 use Rattle.pt_model.specs.Grants.{grant_outcome}
 use Rattle.pt_model.specs.Forced.{is_orphan, service}
 use Rattle.pt_model.specs.Room.{need, reserved_for}
 use Rattle.pt_model.specs.Steps.{Step, yields, Follows}
-use Rattle.pt_model.proofs.Seats.{HousedBy, housed}
 use Rattle.pt_table.specs.declared.clients.ClientRow.{ClientRow}
 use Rattle.pt_records.specs.declared.clients.Caller.{Caller}
 use Rattle.pt_records.specs.declared.clients.Open.{Open}
@@ -75,28 +69,6 @@ two-least h w = go (is_moved h w)
     go false = omega arith
 
 module _ (h : History) (w : WaitingCall) (f : Follows h) where
-  -- the object of an arrival is a barrier
-  pub arrival-barrier : In w (open_calls h) → is_arrival w.role ≡ true
-      → option_map class_of (kind_of h w.object) ≡ Some BarrierClass
-  arrival-barrier i a = go w.role a (moved h w.place) (housed h f w i)
-    where
-      class : (o : Option ObjectKind) → is_class o BarrierClass ≡ true
-          → option_map class_of o ≡ Some BarrierClass
-      class None e = absurd cc
-      class (Some (kind.Mutex k robust)) e = absurd cc
-      class (Some kind.Rwlock) e = absurd cc
-      class (Some kind.Cond) e = absurd cc
-      class (Some (kind.Barrier n)) e = refl
-
-      go : (role : Role) → is_arrival role ≡ true → (move : Option Move)
-          → HousedBy h role move w.object
-          → option_map class_of (kind_of h w.object) ≡ Some BarrierClass
-      go ForBarrier e move s = class (kind_of h w.object) s.0
-      go ForMutex e move s = absurd cc
-      go ForRead e move s = absurd cc
-      go ForWrite e move s = absurd cc
-      go (ForCond m) e move s = absurd cc
-
   -- a Trip uses what was reserved for the calls at its barrier
   pub uses-trip : (n : ℕ) → is_arrival w.role ≡ true
       → n ≡ length (at_barrier w.object (open_calls h))

@@ -12,10 +12,9 @@ use Rattle.pt_types.specs.Operations.{Operation, Makes, Ends, Acquires, Unlocks,
 use Rattle.pt_types.specs.Operations.{Rwunlocks, Awaits, Signals, Broadcasts, Arrives, operation}
 use Rattle.pt_types.specs.Operations.{clock_of}
 use Rattle.pt_types.specs.Tables.{reply}
-use Rattle.pt_model.proofs.Found.{found_open}
 use Rattle.pt_model.specs.Queries.{deadline_if}
 use Rattle.pt_model.specs.Seals.{seal}
-use Rattle.pt_model.proofs.Induction.{by_steps, start-seal}
+use Rattle.pt_model.proofs.Induction.{by_steps}
 use Rattle.pt_model.specs.declared.entry.Entry.{Entry}
 use Rattle.pt_model.specs.declared.entry.Entry.TheVariants.{Join, Call, Death, Moment, Grant, Trip}
 use Rattle.pt_model.specs.declared.entry.Entry.TheVariants.{Yield, Expire}
@@ -110,51 +109,12 @@ left_timed h c call r w i =
     let here : (place h == w.place) ≡ true = grind (arith, nat_tests) in
     (ap (λ b. cond b (asked (operation call)) (timed h w.place)) here, p.1, p.2)
 
--- each open call has the nanoseconds of the deadline that it gave
-abbrev pub Kept : History → Type 0
-Kept h =
-    (w : WaitingCall) → In w (open_calls h)
-    → w.deadline ≡ option_map deadline_nanos (timed h w.place)
-
--- each entry preserves this
-kept_step : (h : History) (e : Entry) → Follows h → Kept h → Step h e → (w : WaitingCall)
-    → In w (open_calls h) ⊎ In w (left h e)
-    → w.deadline ≡ option_map deadline_nanos (timed (h ▷ e) w.place)
-kept_step h e f k s w (inl i) =
-    k w i ∙ ap (option_map deadline_nanos) (sym (timed_old h e w f i))
-kept_step h _ f k (calls c call n a o) w (inr i) =
-    let p = left_timed h c call (reply (verdict h c call)) w i in
-    p.1 ∙ ap (option_map deadline_nanos) (sym p.0)
-kept_step h _ f k (joins p n lt) w (inr i) = absurd i
-kept_step h _ f k (dies c n a) w (inr i) = absurd i
-kept_step h _ f k (ticks z t n) w (inr i) = absurd i
-kept_step h _ f k (grants u s j g) w (inr i) = absurd i
-kept_step h _ f k (trips u s j t) w (inr i) = absurd i
-kept_step h _ f k (yields m s t) w (inr i) = absurd i
-kept_step h _ f k (expires u s j t) w (inr i) = absurd i
-
-nanos_written : (n : ℕ) → deadline_nanos (written n) ≡ n
-nanos_written n = omega arith
-
-kept_written : (o : Option ℕ) → o ≡ option_map deadline_nanos (option_map written o)
-kept_written None = refl
-kept_written (Some n) = ap Some (sym (nanos_written n))
-
 pub written_good : (o : Option ℕ) → has_bad_deadline (option_map written o) ≡ true → ⊥
 written_good None e = cc
 written_good (Some n) e =
     let lt : n % 1000000000 < 1000000000 = omega arith in
     let no : nat_le 1000000000 (n % 1000000000) ≡ false = grind (arith, nat_tests) in
     false≢true (sym no ∙ e)
-
--- in every history, an open call has the nanoseconds of the deadline that it gave
-pub deadline-kept : (h : History) → Follows h → (w : WaitingCall) → In w (open_calls h)
-    → w.deadline ≡ option_map deadline_nanos (timed h w.place)
-deadline-kept h f =
-    by_steps Kept (λ w i. absurd i) (λ h e f k s w i. kept_step h e f k s w (was_open h e f s w i))
-    (λ h f k w i. kept_written w.deadline
-    ∙ ap (λ o. option_map deadline_nanos (option_map written (deadline_if o)))
-    (sym (found_open (Begin (seal h)) (start-seal h f) w i))) h f
 
 -- an open call whose deadline is not a time is granted by the next entry
 abbrev pub GrantsBad : History → Type 0

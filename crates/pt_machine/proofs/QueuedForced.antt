@@ -1,5 +1,5 @@
 -- The queues of a state after a forced entry.
-use Rattle.std.proofs.Common.{◌≡◌, ℕ, Bool, true, false, cond, ◌==◌, List, [], ap, subst}
+use Rattle.std.proofs.Common.{◌≡◌, ℕ, Bool, false, cond, List, ap, subst}
 use Rattle.pt_waitq.specs.declared.waiter.Waiter.{Waiter}
 use Rattle.pt_waitq.specs.Queues.{queues_of, without}
 use Rattle.pt_model.specs.declared.entry.Entry.TheVariants.{Grant, Trip, Expire}
@@ -17,7 +17,7 @@ use Rattle.pt_state.specs.Serving.{called}
 use Rattle.pt_state.proofs.ServingFinds.{are-open}
 use Rattle.pt_machine.specs.Queued.{IsQueued}
 use Rattle.pt_machine.proofs.QueuedSame.{queued-adds}
-use Rattle.pt_machine.proofs.QueuedOut.{queued-grant, queued-expire, queued-trip}
+use Rattle.pt_machine.proofs.QueuedOut.{queued-grant, queued-expire}
 
 module _ {A : Type 0} (old new : State A) (o : Open) (queue queue' : ℕ → List Waiter)
     (admitted admitted' made made' : ℕ → Bool) (read : AreTables old)
@@ -41,16 +41,6 @@ module _ {A : Type 0} (old new : State A) (o : Open) (queue queue' : ℕ → Lis
       (Grant o.call.place (grant_outcome (past old) (called o)))) other) a)
       (queued-grant (past old) (grant_outcome (past old) (called o)) (called o) queue queue'
       admitted admitted' made made' read.follows open_call gone room there k)
-
-  -- a full barrier tripped
-  pub queued-tripped : Adds old (Trip o.call.object) new
-      → is_arrival (called o).role ≡ true
-      → ((q : ℕ) → queue' q ≡ cond (o.call.object == q) [] (queue q))
-      → IsQueued (past new) (queues_of queue' admitted' made')
-  queued-tripped a arrival gone =
-      queued-adds old new (Trip o.call.object) queue' admitted' made' a
-      (queued-trip (past old) (called o) queue queue' admitted admitted' made made' read.follows
-      open_call arrival gone room there k)
 
   -- a call that is not a wait expired
   pub queued-late : Adds old (Expire o.call.place) new → is_wait (called o).role ≡ false

@@ -1,20 +1,12 @@
 -- A call that is left waiting takes its place in a queue.
 use Rattle.std.proofs.Common.{◌≡◌, ◌⊎◌, inl, inr, ℕ, ◌<◌, ◌==◌, Bool, true, false, cond, List, []}
-use Rattle.std.proofs.Common.{◌∷◌, ◌++◌, Option, Some, None, unwrap_or, refl, sym}
+use Rattle.std.proofs.Common.{◌∷◌, ◌++◌, Option, Some, None, refl, sym}
 use Rattle.std.proofs.Common.{ap, ◌∙◌, subst, arith}
 use Rattle.std.proofs.lemmas.Bool.Decides.{nat_tests}
 use Rattle.std.specs.List.{AllByRecursion as Each}
 use Rattle.pt_types.specs.declared.call.Call.{Call as Asked}
 use Rattle.pt_types.specs.declared.outcome.Outcome.{Outcome}
-use Rattle.pt_types.specs.Times.{Timespec}
-use Rattle.pt_types.specs.declared.call.How.{How}
-use Rattle.pt_types.specs.Operations.{Acquires, Arrives, Awaits, operation, clock_of}
-use Rattle.pt_types.specs.Operations.{class_needed, deadline_of}
-use Rattle.pt_types.specs.declared.operations.LockKind.{LockKind}
-use Rattle.pt_types.specs.declared.operations.LockKind.TheVariants.{MutexLock, ReadLock, WriteLock}
-use Rattle.pt_types.specs.declared.operations.ObjectClass.TheVariants.{Barrier as BarrierClass}
-use Rattle.pt_types.specs.declared.operations.ObjectClass.TheVariants.{Cond as CondClass}
-use Rattle.pt_types.specs.declared.operations.ObjectClass.TheVariants.{Mutex as MutexClass}
+use Rattle.pt_types.specs.Operations.{operation, clock_of}
 use Rattle.pt_waitq.specs.declared.waiter.Waiter.{Waiter}
 use Rattle.pt_waitq.specs.Queues.{queues_of, stands_in, IsLatest, insert_in_order}
 use Rattle.pt_waitq.specs.ListLemmas.{any-out}
@@ -25,9 +17,13 @@ use Rattle.pt_model.specs.Searches.{In}
 use Rattle.pt_model.specs.Clients.{client}
 use Rattle.pt_model.specs.Histories.{History, ◌▷◌, place}
 use Rattle.pt_model.specs.declared.waiting_call.WaitingCall.{WaitingCall}
+use Rattle.pt_model.specs.declared.waiting_call.Role.TheVariants.{ForMutex, ForRead, ForWrite}
 use Rattle.pt_model.specs.declared.waiting_call.Role.TheVariants.{ForBarrier, ForCond}
+use Rattle.pt_model.specs.declared.waiting_call.Role.{Role}
 use Rattle.pt_model.specs.declared.waiting_call.Move.{Move}
-use Rattle.pt_model.specs.WaitingCall.{entered, is_write, meant, role_needed, stood_by_operation}
+use Rattle.pt_model.specs.WaitingCall.{stood_by_operation}
+use Rattle.pt_records.specs.declared.clients.Open.{Open}
+use Rattle.pt_state.specs.Left.{IsLeft}
 use Rattle.pt_model.specs.Answers.{open_calls}
 use Rattle.pt_model.specs.Moves.{at_object, moved, object_by}
 use Rattle.pt_model.specs.Steps.{Step, Follows}
@@ -42,8 +38,9 @@ use Rattle.pt_model.proofs.Opens.{open-call}
 use Rattle.pt_model.proofs.OneEach.{none_of_client}
 use Rattle.pt_model.proofs.Stands.{stands-operation}
 use Rattle.pt_state.proofs.StepLemmas.{called}
-use Rattle.pt_machine.specs.Queued.{arriving, standing, waiter, IsQueued, CanStand}
+use Rattle.pt_machine.specs.Queued.{standing, waiter, waiter_by, IsQueued, CanStand}
 use Rattle.pt_machine.proofs.ArrivalBounds.{waiters-below, arrival-new, object-there}
+use Rattle.pt_machine.proofs.OpenPriorities.{open_priority}
 use Rattle.pt_machine.proofs.PlaceTakes.{Takes}
 
 -- an effect leaves at most one call waiting
@@ -59,17 +56,13 @@ alone (Mends m) w i = absurd i
 alone (Returns r) w i = absurd i
 alone (Wakes n all) w i = absurd i
 
--- a call for a lock waits at its object
-stays : (k : LockKind) (m : Option Move) (o : ℕ) → object_by (role_needed k) m o ≡ o
-stays MutexLock m o = refl
-stays ReadLock m o = refl
-stays WriteLock m o = refl
-
--- it waits with its client's priority
-own-priority : (k : LockKind) (p : ℕ) → standing (role_needed k) p ≡ p
-own-priority MutexLock p = refl
-own-priority ReadLock p = refl
-own-priority WriteLock p = refl
+-- a call that was not moved waits at the object that it names
+stays : (r : Role) (o : ℕ) → object_by r None o ≡ o
+stays ForMutex o = refl
+stays ForRead o = refl
+stays ForWrite o = refl
+stays ForBarrier o = refl
+stays (ForCond m) o = refl
 
 -- a call that has just come, and is the only one that the entry leaves waiting
 record Came (h : History) (c : ℕ) (call : Asked) : Type 0 where
@@ -213,115 +206,45 @@ module _ (h : History) (f : Follows h) (c : ℕ) (call : Asked) (s : Step h (Cal
         pick (inr (inl e)) = e
         pick (inr (inr e)) = absurd e
 
-    -- an arrival takes its place at its barrier, and its waiter has its client and its place
-    pub arrival-takes : (n : List ℕ) → operation call ≡ Arrives n → (g : History)
-        → g ≡ h ▷ Call c call None → (b j : ℕ) (v : Waiter) → b ≡ meant h n BarrierClass
-        → j ≡ place h → v ≡ arriving c j → Takes g c b v
-    arrival-takes n arrives g e b j v at is stands =
-        subst (λ (x : History). Takes x c b v) (sym e) (record {
-          seat = λ w i by. at ∙ sym (ap (at_object after) (its w i by));
+    -- a call that is left waiting takes its place at its object, with its client's priority
+    pub left-takes : (o : Open) → IsLeft h c call o → (g : History) → g ≡ h ▷ Call c call None
+        → (p : ℕ) (v : Waiter) → client h c ≡ Some p
+        → v ≡ record (waiter_by o.moved o.call) { prio = standing o.call.role p }
+        → Takes g c o.call.object v
+    left-takes o l g e p v prior stands =
+        subst (λ (x : History). Takes x c o.call.object v) (sym e) (record {
+          seat = λ w i by.
+              ap (λ (u : WaitingCall). u.object) (its w i by)
+              ∙ sym (ap (λ (m : Option Move). object_by w.role m w.object) (still w i by)
+              ∙ stays w.role w.object);
           same = λ w i by.
               stands
-              ∙ (ap (arriving c) is
-              ∙ (ap (λ m. record (arriving c (place h)) { moved = m })
-              (sym (arrival-new h f arrival refl))
-              ∙ sym (ap (waiter after) (its w i by))));
+              ∙ (ap (λ (m : Option Move). with_priority p m o.call) l.unmoved
+              ∙ (ap (λ (u : WaitingCall). with_priority p None u) (its w i by)
+              ∙ (ap (λ (k : ℕ). with_priority k None w) (level w i by)
+              ∙ ap (λ (m : Option Move). waiter_by m w) (sym (still w i by)))));
         })
       where
-        arrival : WaitingCall
-        arrival = entered h c (meant h n BarrierClass) ForBarrier (clock_of call) None
+        with_priority : ℕ → Option Move → WaitingCall → Waiter
+        with_priority k m w = record (waiter_by m w) { prio = standing w.role k }
 
-        one : In new.waiting (arrival ∷ []) → new.waiting ≡ arrival
-        one (inl k) = k
+        one : In new.waiting (o.call ∷ []) → o.call ≡ new.waiting
+        one (inl k) = sym k
         one (inr k) = absurd k
 
-        its : (w : WaitingCall) → In w (open_calls after) → w.client ≡ c → w ≡ arrival
+        its : (w : WaitingCall) → In w (open_calls after) → w.client ≡ c → o.call ≡ w
         its w i by =
-            only-came w i by
-            ∙ one (subst (λ d. In new.waiting (stood_by_operation h c (clock_of call) d)) arrives
-            new.stood)
+            one (subst (λ (ws : List WaitingCall). In new.waiting ws) l.stands new.stood)
+            ∙ sym (only-came w i by)
 
-    -- a wait takes its place at its condition, and its waiter has its client, its place and its
-    -- client's priority
-    pub wait-takes : (n m : List ℕ) (d : Option Timespec) → operation call ≡ Awaits n m d
-        → (g : History) → g ≡ h ▷ Call c call None → (q j p : ℕ) (v : Waiter)
-        → q ≡ meant h n CondClass → j ≡ place h → client h c ≡ Some p
-        → v ≡ record (arriving c j) { prio = p } → Takes g c q v
-    wait-takes n m d awaits g e q j p v at is prior stands =
-        subst (λ (x : History). Takes x c q v) (sym e) (record {
-          seat = λ w i by.
-              at
-              ∙ sym (ap (at_object after) (its w i by)
-              ∙ ap (λ x. object_by (ForCond (meant h m MutexClass)) x (meant h n CondClass)) still);
-          same = λ w i by.
-              stands
-              ∙ (ap (λ k. record (arriving c k) { prio = p }) is
-              ∙ (ap (λ x. record (arriving c (place h)) { prio = x })
-              (sym (ap (λ (o : Option ℕ). unwrap_or o 0) prior))
-              ∙ (ap (λ x. record (arriving c (place h)) {
-                prio = unwrap_or (client h c) 0;
-                moved = x;
-              }) (sym (arrival-new h f wait refl))
-              ∙ sym (ap (waiter after) (its w i by)))));
-        })
-      where
-        wait : WaitingCall
-        wait = entered h c (meant h n CondClass) (ForCond (meant h m MutexClass)) (clock_of call) d
+        still : (w : WaitingCall) → In w (open_calls after) → w.client ≡ c
+            → moved after w.place ≡ None
+        still w i by =
+            ap (moved h) (ap (λ (u : WaitingCall). u.place) (only-came w i by) ∙ new.at)
+            ∙ (Fresh-follows h f).moves (place h) (omega arith)
 
-        still : moved h (place h) ≡ None
-        still = (Fresh-follows h f).moves (place h) (omega arith)
-
-        one : In new.waiting (wait ∷ []) → new.waiting ≡ wait
-        one (inl k) = k
-        one (inr k) = absurd k
-
-        its : (w : WaitingCall) → In w (open_calls after) → w.client ≡ c → w ≡ wait
-        its w i by =
-            only-came w i by
-            ∙ one (subst (λ x. In new.waiting (stood_by_operation h c (clock_of call) x)) awaits
-            new.stood)
-
-    -- a call for a lock takes its place there, and its waiter has its client, its place and its
-    -- client's priority
-    pub lock-takes : (n : List ℕ) (k : LockKind) (how : How) → operation call ≡ Acquires n k how
-        → (g : History) → g ≡ h ▷ Call c call None → (o j p : ℕ) (v : Waiter)
-        → o ≡ meant h n (class_needed k) → j ≡ place h → client h c ≡ Some p
-        → v ≡ record (arriving c j) { prio = p; writer = is_write (role_needed k) }
-        → Takes g c o v
-    lock-takes n k how acquires g e o j p v at is prior stands =
-        subst (λ (x : History). Takes x c o v) (sym e) (record {
-          seat = λ w i by.
-              at
-              ∙ sym (ap (at_object after) (its w i by)
-              ∙ stays k (moved h (place h)) (meant h n (class_needed k)));
-          same = λ w i by.
-              stands
-              ∙ (ap (λ m. record (arriving c m) { prio = p; writer = is_write (role_needed k) }) is
-              ∙ (ap (λ x. record (arriving c (place h)) {
-                prio = x;
-                writer = is_write (role_needed k);
-              }) (sym (ap (λ (u : Option ℕ). unwrap_or u 0) prior))
-              ∙ (ap (λ x. record (arriving c (place h)) {
-                prio = unwrap_or (client h c) 0;
-                writer = is_write (role_needed k);
-                moved = x;
-              }) (sym (arrival-new h f lock refl))
-              ∙ (ap (λ x. record (waiter after lock) { prio = x })
-              (sym (own-priority k (unwrap_or (client h c) 0)))
-              ∙ sym (ap (waiter after) (its w i by))))));
-        })
-      where
-        lock : WaitingCall
-        lock =
-            entered h c (meant h n (class_needed k)) (role_needed k) (clock_of call)
-            (deadline_of how)
-
-        one : In new.waiting (lock ∷ []) → new.waiting ≡ lock
-        one (inl i) = i
-        one (inr i) = absurd i
-
-        its : (w : WaitingCall) → In w (open_calls after) → w.client ≡ c → w ≡ lock
-        its w i by =
-            only-came w i by
-            ∙ one (subst (λ x. In new.waiting (stood_by_operation h c (clock_of call) x)) acquires
-            new.stood)
+        level : (w : WaitingCall) → In w (open_calls after) → w.client ≡ c → p ≡ w.priority
+        level w i by =
+            let here : ◌≡◌ {A = Option ℕ} (Some p) (Some w.priority) =
+            sym prior ∙ (ap (client h) (sym by) ∙ open_priority after (f, s) w i) in
+            cc

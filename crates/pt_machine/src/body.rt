@@ -5,8 +5,6 @@ ghost use Rattle.std.specs.Prelude.{IfErr, IsOk, OnErr, OnOk, ◌+◌, ◌<◌, 
 ghost use Rattle.pt_model.specs.Room.{entry_for};
 ghost use Rattle.pt_machine.specs.Memory.{needs_memory};
 ghost use Rattle.pt_machine.specs.Planned.{IsPlanned};
-ghost use Rattle.pt_records.specs.Callers.{opens_of};
-ghost use Rattle.pt_state.specs.Serving.{IsFor, entry_of};
 ghost use Rattle.pt_model.specs.Answers.{open_place as open_place_in};
 ghost use Rattle.pt_state.specs.Reads.{AreTables};
 ghost use Rattle.pt_history.specs.Stored.{begun};
@@ -16,7 +14,7 @@ use crate::clock;
 use crate::planning::Plan;
 use crate::touched::caller_of;
 use pt_model::Event;
-use pt_state::{Forced, State};
+use pt_state::State;
 use pt_timers::Timers;
 use pt_types::{ClientId, ObjectId, Refusal};
 use pt_waitq::WaitList;
@@ -101,20 +99,6 @@ impl<Q: WaitList, A: Allocator + Copy> Body<Q, A> {
         self.entering = entering;
         self.need = plan.need;
         Ok(())
-    }
-
-    /// Pushes a forced entry.
-    /// [XSH pthread_mutex_unlock, pthread_mutex_lock EOWNERDEAD, pthread_mutex_timedlock]
-    pub fn push_forced(&mut self, forced: &Forced)
-        requires ready { IsReadyFor self.old (entry_of (past self.old) forced.now) }
-        requires known { IsFor (opens_of self.old.clients) forced.now }
-        ensures { Adds self.old (entry_of (past self.old) forced.now) self.new }
-    {
-        let touched = self.touched_by_forced(forced);
-        let used = self.used_by_forced(forced);
-        clock::push_forced(&mut self.state, &mut self.queues, &mut self.timers, forced);
-        self.touched = touched;
-        self.need -= used;
     }
 
     /// Returns the place of a client's open call, if it has one.

@@ -8,7 +8,7 @@ ghost use Rattle.pt_types.specs.Operations.{Restores, Rwunlocks, Signals, Unlock
 ghost use Rattle.pt_types.specs.declared.operations.LockKind.TheVariants.{ReadLock, WriteLock};
 ghost use Rattle.pt_model.specs.declared.entry.Entry.TheVariants as entry;
 ghost use Rattle.pt_state.specs.Adds.{Adds, IsReadyFor, Stays, past};
-ghost use Rattle.pt_state.specs.Outer.{asks_to_read, makes_object};
+ghost use Rattle.pt_state.specs.Outer.{makes_object};
 ghost use Rattle.pt_machine.specs.Queued.{IsQueued};
 ghost use Rattle.pt_types.specs.declared.outcome.Outcome.TheVariants as told;
 ghost use Rattle.pt_model.specs.Verdicts.{operation_verdict as said_of};
@@ -16,63 +16,12 @@ ghost use Rattle.pt_state.specs.Reads.{AreTables};
 
 use crate::body::Body;
 use crate::cond::{push_broadcast, push_signal};
-use crate::locks::{leave_mutex_lock, leave_read_lock, leave_write_lock};
 use crate::objects::{push_ended, push_ended_object, push_made, push_new_object};
-use crate::queues::{entering, take_place};
 use pt_state::{Request, State, known_verdict};
 use pt_types::operations::{LockKind, Operation, operation_of};
 use pt_types::{Call, ClientId, How, Name, ObjectId, Outcome, Refusal, Verdict};
 use pt_waitq::WaitList;
 use std::alloc::Allocator;
-
-// Pushes a call that waits, and puts it into its queue. ENOMEM if there is no memory for the
-// client's row in a read-write lock. No other call needs memory.  [XSH, the call's page]
-#[inline(always)]
-fn leave<Q: WaitList, A: Allocator + Copy>(
-    state: &mut State<A>,
-    queues: &mut Q,
-    c: ClientId,
-    call: &Call,
-    request: &Request,
-) -> Result<(), Refusal>
-    requires ready { IsReadyFor state.old (entry.Call c call.now None) }
-    requires asks { IsRequest (past state.old) (operation call.now) request.now }
-    requires queued { IsQueued (past state.old) (Q.seen queues.old) }
-    ensures ok { OnOk result (Adds state.old (entry.Call c call.now None) state.new) }
-    ensures err { OnErr result (Stays state.old state.new) }
-    ensures reason { IfErr result (λ refusal. refusal ≡ Refusal.Enomem) }
-    ensures enough { asks_to_read (operation call.now) ≡ false → IsOk result }
-    ensures queued { IsQueued (past state.new) (Q.seen queues.new) }
-{
-    match state.push_left(c, call, request) {
-        Ok(()) => {
-            take_place(queues, state, c);
-            Ok(())
-        }
-        Err(refusal) => Err(refusal),
-    }
-}
-
-/// Does what `leave` does, for any call. It is not inlined.
-#[inline(never)]
-pub(crate) fn leave_any<Q: WaitList, A: Allocator + Copy>(
-    state: &mut State<A>,
-    queues: &mut Q,
-    c: ClientId,
-    call: &Call,
-    request: &Request,
-) -> Result<(), Refusal>
-    requires ready { IsReadyFor state.old (entry.Call c call.now None) }
-    requires asks { IsRequest (past state.old) (operation call.now) request.now }
-    requires queued { IsQueued (past state.old) (Q.seen queues.old) }
-    ensures ok { OnOk result (Adds state.old (entry.Call c call.now None) state.new) }
-    ensures err { OnErr result (Stays state.old state.new) }
-    ensures reason { IfErr result (λ refusal. refusal ≡ Refusal.Enomem) }
-    ensures enough { asks_to_read (operation call.now) ≡ false → IsOk result }
-    ensures queued { IsQueued (past state.new) (Q.seen queues.new) }
-{
-    leave(state, queues, c, call, request)
-}
 
 /// Returns the object that a call's name means, or 0 if it means none.
 #[inline(always)]
@@ -82,87 +31,6 @@ pub(crate) fn object_named(request: &Request) -> ObjectId
     match request.object {
         Some(b) => b,
         None => ObjectId(0),
-    }
-}
-
-// Pushes a wait with no deadline, and puts it into its queue. It waits at its condition with its
-// client's priority, which the push returns, so the client's row is looked at only once.
-#[inline(always)]
-fn enter_wait<Q: WaitList, A: Allocator + Copy>(
-    state: &mut State<A>,
-    queues: &mut Q,
-    c: ClientId,
-    call: &Call,
-    n: &Name,
-    m: &Name,
-    request: &Request,
-)
-    requires ready { IsReadyFor state.old (entry.Call c call.now None) }
-    requires operation { operation call.now ≡ Awaits n.now m.now None }
-    requires asks { IsRequest (past state.old) (operation call.now) request.now }
-    requires queued { IsQueued (past state.old) (Q.seen queues.old) }
-    ensures adds { Adds state.old (entry.Call c call.now None) state.new }
-    ensures queued { IsQueued (past state.new) (Q.seen queues.new) }
-{
-    let place = state.stored.len();
-    let q = object_named(request);
-    let prio = state.push_endless_wait(c, call, n, m, request);
-    queues.insert(q, entering(c, place, prio));
-}
-
-// Does what `leave` does, for a wait with no deadline.
-#[inline(never)]
-fn leave_wait<Q: WaitList, A: Allocator + Copy>(
-    state: &mut State<A>,
-    queues: &mut Q,
-    c: ClientId,
-    call: &Call,
-    request: &Request,
-) -> Result<(), Refusal>
-    requires ready { IsReadyFor state.old (entry.Call c call.now None) }
-    requires asks { IsRequest (past state.old) (operation call.now) request.now }
-    requires queued { IsQueued (past state.old) (Q.seen queues.old) }
-    ensures ok { OnOk result (Adds state.old (entry.Call c call.now None) state.new) }
-    ensures err { OnErr result (Stays state.old state.new) }
-    ensures reason { IfErr result (λ refusal. refusal ≡ Refusal.Enomem) }
-    ensures enough { asks_to_read (operation call.now) ≡ false → IsOk result }
-    ensures queued { IsQueued (past state.new) (Q.seen queues.new) }
-{
-    match call {
-        Call::Wait(n, m) => {
-            enter_wait(state, queues, c, call, n, m, request);
-            Ok(())
-        }
-        _ => leave_any(state, queues, c, call, request),
-    }
-}
-
-/// Pushes a call that waits, and puts it into its queue. Each call that comes often has its own
-/// function for that. ENOMEM if there is no memory for the client's row in a read-write lock. No
-/// other call needs memory.  [XSH, the call's page]
-#[inline(always)]
-pub(crate) fn push_left<Q: WaitList, A: Allocator + Copy>(
-    state: &mut State<A>,
-    queues: &mut Q,
-    c: ClientId,
-    call: &Call,
-    request: &Request,
-) -> Result<(), Refusal>
-    requires ready { IsReadyFor state.old (entry.Call c call.now None) }
-    requires asks { IsRequest (past state.old) (operation call.now) request.now }
-    requires queued { IsQueued (past state.old) (Q.seen queues.old) }
-    ensures ok { OnOk result (Adds state.old (entry.Call c call.now None) state.new) }
-    ensures err { OnErr result (Stays state.old state.new) }
-    ensures reason { IfErr result (λ refusal. refusal ≡ Refusal.Enomem) }
-    ensures enough { asks_to_read (operation call.now) ≡ false → IsOk result }
-    ensures queued { IsQueued (past state.new) (Q.seen queues.new) }
-{
-    match call {
-        Call::Lock(_) => leave_mutex_lock(state, queues, c, call, request),
-        Call::Rdlock(_) => leave_read_lock(state, queues, c, call, request),
-        Call::Wrlock(_) => leave_write_lock(state, queues, c, call, request),
-        Call::Wait(..) => leave_wait(state, queues, c, call, request),
-        _ => leave_any(state, queues, c, call, request),
     }
 }
 

@@ -17,16 +17,17 @@ ghost use Rattle.pt_types.specs.Times.{is_bad_deadline};
 ghost use Rattle.pt_machine.specs.Memory.{needs_memory, needs_memory_to_wait};
 ghost use Rattle.pt_state.specs.Outer.{makes_object};
 ghost use Rattle.pt_machine.specs.Planned.{HasRequest, entry_with};
-ghost use Rattle.pt_state.specs.Serving.{IsFor, called, entry_of};
+ghost use Rattle.pt_state.specs.Serving.{called};
 ghost use Rattle.pt_model.specs.Searches.{In};
 ghost use Rattle.pt_model.specs.Forced.{service};
-ghost use Rattle.pt_model.specs.WaitingCall.{is_arrival};
+ghost use Rattle.pt_model.specs.WaitingCall.{is_arrival, mutex_of};
 
+use crate::waiting::push_waiting;
 use crate::{calls, clients, forced};
 use pt_model::Event;
 use pt_model::waiting_call::WaitingCall;
 use pt_records::Open;
-use pt_state::{Forced, Request, State};
+use pt_state::{Request, State};
 use pt_timers::Timers;
 use pt_types::operations::clock_of;
 use pt_types::{Call, ClientId, Clock, Deadline, Moment, Outcome, Refusal};
@@ -165,7 +166,7 @@ fn push_timed<Q: WaitList, A: Allocator + Copy>(
     if let Err(refusal) = timers.set(place, c, clock, deadline) {
         return Err(refusal);
     }
-    match calls::push_left(state, queues, c, call, request) {
+    match push_waiting(state, queues, c, call, request) {
         Ok(()) => Ok(()),
         Err(refusal) => {
             timers.cancel(place, clock, deadline.nanos());
@@ -198,7 +199,7 @@ fn push_left<Q: WaitList, A: Allocator + Copy>(
 {
     match good_deadline(call) {
         Some(deadline) => push_timed(state, queues, timers, c, call, deadline, request),
-        None => calls::push_left(state, queues, c, call, request),
+        None => push_waiting(state, queues, c, call, request),
     }
 }
 
@@ -335,8 +336,8 @@ pub(crate) fn push_outer<Q: WaitList, A: Allocator + Copy>(
     }
 }
 
-/// Pushes the Grant of a call, which is no arrival, and drops its deadline.
-/// [XSH pthread_mutex_unlock, pthread_rwlock_unlock]
+/// Pushes the Grant of a call for a read-write lock, and drops its deadline.
+/// [XSH pthread_rwlock_unlock]
 #[inline(always)]
 pub(crate) fn push_granted<Q: WaitList, A: Allocator + Copy>(
     state: &mut State<A>,
@@ -349,39 +350,11 @@ pub(crate) fn push_granted<Q: WaitList, A: Allocator + Copy>(
     requires timed { AreTimed (past state.old) timers.old }
     requires known { In found.now (opens_of state.old.clients) }
     requires other { is_arrival (called found.now).role ≡ false }
+    requires plain { mutex_of (called found.now).role found.now.call.object ≡ None }
     ensures adds { Adds state.old (service (past state.old) (called found.now)) state.new }
     ensures queued { IsQueued (past state.new) (Q.seen queues.new) }
     ensures timed { AreTimed (past state.new) timers.new }
 {
     forced::push_granted(state, queues, found);
     drop_deadline(timers, &found.call);
-}
-
-/// Pushes a forced entry, and drops the deadline of the call that it serves, ends or moves.
-/// [XSH pthread_mutex_unlock, pthread_mutex_lock EOWNERDEAD, pthread_mutex_timedlock]
-pub(crate) fn push_forced<Q: WaitList, A: Allocator + Copy>(
-    state: &mut State<A>,
-    queues: &mut Q,
-    timers: &mut Timers<A>,
-    forced: &Forced,
-)
-    requires ready { IsReadyFor state.old (entry_of (past state.old) forced.now) }
-    requires queued { IsQueued (past state.old) (Q.seen queues.old) }
-    requires timed { AreTimed (past state.old) timers.old }
-    requires known { IsFor (opens_of state.old.clients) forced.now }
-    ensures adds { Adds state.old (entry_of (past state.old) forced.now) state.new }
-    ensures queued { IsQueued (past state.new) (Q.seen queues.new) }
-    ensures timed { AreTimed (past state.new) timers.new }
-{
-    match forced {
-        Forced::Serve(found) => {
-            forced::push_forced(state, queues, forced);
-            drop_deadline(timers, &found.call);
-        }
-        Forced::Yield(_) => forced::push_forced(state, queues, forced),
-        Forced::Expire(late) => {
-            forced::push_forced(state, queues, forced);
-            drop_deadline(timers, &late.call);
-        }
-    }
 }

@@ -16,7 +16,7 @@ ghost use Rattle.pt_model.specs.Forced.{forced as forced_in, is_served as is_ser
 ghost use Rattle.pt_model.specs.Forced.{is_served_before as is_served_before_in, service};
 ghost use Rattle.pt_state.specs.Adds.{Adds, IsReadyFor, past};
 ghost use Rattle.pt_records.specs.Callers.{opens_of};
-ghost use Rattle.pt_state.specs.Serving.{IsFor, called, entry_of};
+ghost use Rattle.pt_state.specs.Serving.{called};
 ghost use Rattle.pt_machine.specs.Queued.{IsQueued};
 ghost use Rattle.pt_machine.specs.Services.{IsService, Serves};
 ghost use Rattle.pt_model.specs.Forced.{service as service_of};
@@ -24,16 +24,15 @@ ghost use Rattle.pt_model.specs.declared.entry.Entry.TheVariants as entry;
 ghost use Rattle.pt_state.specs.Reads.{AreTables};
 ghost use Rattle.pt_model.specs.Answers.{open_calls};
 
-use crate::barrier::push_tripped;
 use crate::body::Body;
 use crate::candidates::Service;
 use crate::clock;
 use crate::cond::push_late_wait;
-use crate::room::used_by_grant;
-use pt_model::waiting_call::{is_arrival, is_wait, mutex_of};
+use crate::touched::goal_of;
+use pt_model::waiting_call::{is_wait, mutex_of};
 use pt_records::Open;
 use pt_records::calls::reserved_by;
-use pt_state::{Forced, Had, State};
+use pt_state::{Had, State};
 use pt_types::views::is_acquired;
 use pt_types::{ClientId, ObjectId};
 use pt_waitq::WaitList;
@@ -53,8 +52,8 @@ fn used_by_gain(open: &Open, had: Had) -> u64
     }
 }
 
-// Pushes the Grant of a call, which leaves its queue.
-// [XSH pthread_mutex_unlock, pthread_rwlock_unlock]
+// Pushes the Grant of a call for a read-write lock, which leaves its queue.
+// [XSH pthread_rwlock_unlock]
 #[inline(always)]
 pub(crate) fn push_granted<Q: WaitList, A: Allocator + Copy>(
     state: &mut State<A>,
@@ -65,32 +64,12 @@ pub(crate) fn push_granted<Q: WaitList, A: Allocator + Copy>(
     requires queued { IsQueued (past state.old) (Q.seen queues.old) }
     requires known { In found.now (opens_of state.old.clients) }
     requires other { is_arrival_role (called found.now).role ≡ false }
+    requires plain { mutex_of_role (called found.now).role found.now.call.object ≡ None }
     ensures adds { Adds state.old (service (past state.old) (called found.now)) state.new }
     ensures queued { IsQueued (past state.new) (Q.seen queues.new) }
 {
     state.push_granted(found);
     queues.remove(found.call.client);
-}
-
-// Pushes the entry that serves a call: the Trip of its barrier, or its Grant.
-// [XSH pthread_barrier_wait, pthread_mutex_unlock, pthread_rwlock_unlock]
-#[inline(always)]
-pub(crate) fn push_served<Q: WaitList, A: Allocator + Copy>(
-    state: &mut State<A>,
-    queues: &mut Q,
-    found: &Open,
-)
-    requires ready { IsReadyFor state.old (service (past state.old) (called found.now)) }
-    requires queued { IsQueued (past state.old) (Q.seen queues.old) }
-    requires known { In found.now (opens_of state.old.clients) }
-    ensures adds { Adds state.old (service (past state.old) (called found.now)) state.new }
-    ensures queued { IsQueued (past state.new) (Q.seen queues.new) }
-{
-    if is_arrival(found.call.role) {
-        push_tripped(state, queues, found);
-    } else {
-        push_granted(state, queues, found);
-    }
 }
 
 // Pushes the Expire of a call for a lock. The call ends, and leaves its queue.
@@ -130,26 +109,6 @@ pub(crate) fn push_expire<Q: WaitList, A: Allocator + Copy>(
     }
 }
 
-/// Pushes a forced entry.
-/// [XSH pthread_mutex_unlock, pthread_mutex_lock EOWNERDEAD, pthread_mutex_timedlock]
-pub(crate) fn push_forced<Q: WaitList, A: Allocator + Copy>(
-    state: &mut State<A>,
-    queues: &mut Q,
-    forced: &Forced,
-)
-    requires ready { IsReadyFor state.old (entry_of (past state.old) forced.now) }
-    requires queued { IsQueued (past state.old) (Q.seen queues.old) }
-    requires known { IsFor (opens_of state.old.clients) forced.now }
-    ensures adds { Adds state.old (entry_of (past state.old) forced.now) state.new }
-    ensures queued { IsQueued (past state.new) (Q.seen queues.new) }
-{
-    match forced {
-        Forced::Serve(found) => push_served(state, queues, found),
-        Forced::Yield(m) => state.push_yield(*m),
-        Forced::Expire(found) => push_expire(state, queues, found),
-    }
-}
-
 impl<Q: WaitList, A: Allocator + Copy> Body<Q, A> {
     // Returns what is served first, if anything is.
     // [XSH pthread_mutex_unlock, the lowest first is profile]
@@ -178,7 +137,7 @@ impl<Q: WaitList, A: Allocator + Copy> Body<Q, A> {
         self.need -= used_by_gain(found, had);
     }
 
-    // Pushes the Grant of a call that is no arrival. The touched object stays the same.
+    // Pushes the Grant of a call for a read-write lock. The touched object stays the same.
     // [XSH pthread_rwlock_unlock]
     #[inline(always)]
     fn push_passed(&mut self, found: &Open)
@@ -186,9 +145,10 @@ impl<Q: WaitList, A: Allocator + Copy> Body<Q, A> {
         requires ready { IsReadyFor self.old (service (past self.old) (called found.now)) }
         requires known { In found.now (opens_of self.old.clients) }
         requires other { is_arrival_role (called found.now).role ≡ false }
+        requires plain { mutex_of_role (called found.now).role found.now.call.object ≡ None }
         ensures { Adds self.old (service (past self.old) (called found.now)) self.new }
     {
-        let used = used_by_grant(&self.state, found);
+        let used = reserved_by(Some(*found));
         clock::push_granted(&mut self.state, &mut self.queues, &mut self.timers, found);
         self.need -= used;
     }
@@ -247,6 +207,20 @@ impl<Q: WaitList, A: Allocator + Copy> Body<Q, A> {
         self.need -= 1;
     }
 
+    // Pushes the Expire of an open call whose deadline has passed, and drops the deadline.
+    // [XSH pthread_cond_timedwait, pthread_mutex_timedlock]
+    fn push_late(&mut self, late: &Open)
+        requires ready { IsReadyFor self.old (entry.Expire late.now.call.place) }
+        requires known { In late.now (opens_of self.old.clients) }
+        ensures { Adds self.old (entry.Expire late.now.call.place) self.new }
+    {
+        let used = self.used_by_expiry(late);
+        push_expire(&mut self.state, &mut self.queues, late);
+        clock::drop_deadline(&mut self.timers, &late.call);
+        self.touched = Some(goal_of(late));
+        self.need -= used;
+    }
+
     // Pushes the Expire of the call at a place. This client's open call is looked at first.
     // [XSH pthread_cond_timedwait, pthread_mutex_timedlock]
     #[inline(never)]
@@ -257,7 +231,7 @@ impl<Q: WaitList, A: Allocator + Copy> Body<Q, A> {
         ensures { Adds self.old (entry.Expire place) self.new }
     {
         let late = *self.open_at(place, c).unwrap();
-        self.push_forced(&Forced::Expire(late));
+        self.push_late(&late);
     }
 
     /// Pushes the entry that must follow next, and returns whether one must. Grants and Trips come

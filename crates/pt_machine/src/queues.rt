@@ -10,7 +10,6 @@ ghost use Rattle.pt_model.specs.Moves.{at_object};
 ghost use Rattle.pt_waitq.specs.Queues.{insert_in_order};
 ghost use Rattle.pt_state.specs.Adds.{past};
 ghost use Rattle.pt_state.specs.Reads.{AreTables};
-ghost use Rattle.pt_model.specs.WaitingCall.{is_write as is_write_role, role_needed as role_meant};
 ghost use Rattle.pt_model.specs.Verdicts.{is_awaited as is_awaited_in};
 
 use crate::body::Body;
@@ -18,7 +17,6 @@ use pt_model::waiting_call::{Role, is_arrival, is_write};
 use pt_records::Open;
 use pt_records::calls::at_object;
 use pt_state::State;
-use pt_types::operations::LockKind;
 use pt_types::{ClientId, MOST_PRIORITY, ObjectId, Priority};
 use pt_waitq::{WaitList, Waiter};
 use std::alloc::Allocator;
@@ -50,41 +48,9 @@ pub(crate) fn arriving(client: ClientId, place: u64) -> Waiter
     }
 }
 
-/// Returns a call as it waits, given its client and its place, if it asks for no write lock and was
-/// not moved.  [XSH 2.8.4]
+/// Returns an open call as it waits, with its client's priority.  [XSH 2.8.4]
 #[inline(always)]
-pub(crate) fn entering(client: ClientId, place: u64, prio: Priority) -> Waiter
-    ensures { result ≡ record (arriving_in client place) { prio = prio } }
-{
-    Waiter {
-        client,
-        place,
-        prio,
-        writer: false,
-        moved: place,
-    }
-}
-
-/// Returns a call for a lock as it waits, given its client and its place.  [XSH 2.8.4]
-#[inline(always)]
-pub(crate) fn asking(client: ClientId, place: u64, prio: Priority, lock_kind: LockKind) -> Waiter
-    ensures { result
-        ≡ record (arriving_in client place) {
-          prio = prio;
-          writer = is_write_role (role_meant lock_kind);
-        } }
-{
-    Waiter {
-        client,
-        place,
-        prio,
-        writer: lock_kind == LockKind::WriteLock,
-        moved: place,
-    }
-}
-
-// Returns an open call as it waits, with its client's priority.  [XSH 2.8.4]
-fn waiter_of(open: &Open, prio: Priority) -> Waiter
+pub(crate) fn waiter_of(open: &Open, prio: Priority) -> Waiter
     ensures { result
         ≡ record (waiter_by «open».now.moved «open».now.call) {
           prio = standing_in «open».now.call.role prio;

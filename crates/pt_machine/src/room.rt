@@ -4,63 +4,31 @@ ghost use Rattle.std.specs.Prelude.{Err, IfErr, IsOk, None, OnErr, OnOk, ◌+◌
 ghost use Rattle.std.specs.Prelude.{◌≤◌, length, true};
 ghost use Rattle.pt_model.specs.Room.{entry_for, is_over as is_over_in, need as need_in};
 ghost use Rattle.pt_model.specs.Room.{refusal as refusal_in, refusal_within as refusal_within_in};
-ghost use Rattle.pt_model.specs.Room.{reserved_for};
 ghost use Rattle.pt_state.specs.Adds.{past};
 ghost use Rattle.pt_state.specs.Reads.{AreTables};
 ghost use Rattle.pt_model.specs.Histories.{◌▷◌};
-ghost use Rattle.pt_model.specs.Forced.{forced, service};
+ghost use Rattle.pt_model.specs.Forced.{forced};
 ghost use Rattle.pt_model.specs.declared.entry.Entry.TheVariants as entry_is;
 ghost use Rattle.pt_model.specs.Searches.{In};
 ghost use Rattle.pt_model.specs.Steps.{Step};
-ghost use Rattle.pt_model.specs.WaitingCall.{mutex_of};
 ghost use Rattle.pt_records.specs.Callers.{opens_of};
-ghost use Rattle.pt_records.specs.Counts.{one_if};
-ghost use Rattle.pt_state.specs.Serving.{IsFor, called, entry_of};
-ghost use Rattle.pt_machine.specs.Reserved.{gives_owner};
 
 use crate::body::Body;
 use pt_model::Event;
-use pt_model::waiting_call::{is_arrival, is_wait, mutex_of};
+use pt_model::waiting_call::is_wait;
 use pt_records::Open;
-use pt_records::calls::reserved_by;
-use pt_state::{Forced, State};
 use pt_types::Refusal;
-use pt_types::views::is_acquired;
 use pt_waitq::WaitList;
 use std::alloc::Allocator;
 
-// Returns whether the Grant of a call gives an owner to a robust mutex, for whose Yield an entry is
-// then reserved.
-#[inline(always)]
-fn gives_owner<A: Allocator + Copy>(state: &State<A>, open: &Open) -> bool
-    requires read { AreTables state.now }
-    requires known { In «open».now (opens_of state.now.clients) }
-    ensures { let w = called «open».now in
-        result ≡ gives_owner (past state.now) w (mutex_of w.role w.object) }
-{
-    match mutex_of(&open.call) {
-        Some(m) => state.is_robust_free(m) && is_acquired(state.grant_outcome(open)),
-        None => false,
-    }
-}
-
-/// Returns how many entries are no longer reserved after a call is granted.
-#[inline(always)]
-pub(crate) fn used_by_grant<A: Allocator + Copy>(state: &State<A>, open: &Open) -> u64
-    requires read { AreTables state.now }
-    requires known { In «open».now (opens_of state.now.clients) }
-    ensures { let w = called «open».now in
-        result + one_if (gives_owner (past state.now) w (mutex_of w.role w.object))
-        ≡ reserved_for (past state.now) w }
-{
-    if gives_owner(state, open) {
-        reserved_by(Some(*open)) - 1
-    } else {
-        reserved_by(Some(*open))
-    }
-}
-
 impl<Q: WaitList, A: Allocator + Copy> Body<Q, A> {
+    /// Returns the number of entries that are reserved for what must follow.
+    pub fn need(&self) -> u64
+        ensures { result ≡ need_in (past self.now) }
+    {
+        self.need
+    }
+
     /// Returns for how many more entries there is room.
     pub fn room(&self) -> u64
         ensures room { result ≡ self.now.stored.room }
@@ -137,26 +105,9 @@ impl<Q: WaitList, A: Allocator + Copy> Body<Q, A> {
         self.state.refusal(event)
     }
 
-    // Returns how many entries are no longer reserved after a full barrier trips, or a call is
-    // granted.
-    #[inline(always)]
-    pub(crate) fn used_by_service(&self, open: &Open) -> u64
-        requires read { AreTables self.now }
-        requires step { Step (past self.now) (service (past self.now) (called «open».now)) }
-        requires known { In «open».now (opens_of self.now.clients) }
-        ensures { let h = past self.now in
-            need_in (h ▷ service h (called «open».now)) + result ≡ need_in h }
-    {
-        if is_arrival(open.call.role) {
-            3 * self.arrivals(open.call.object) as u64
-        } else {
-            used_by_grant(&self.state, open)
-        }
-    }
-
-    // Returns how many entries are no longer reserved after a deadline moves a wait, or ends
-    // another call.
-    fn used_by_expiry(&self, late: &Open) -> u64
+    /// Returns how many entries are no longer reserved after a deadline moves a wait, or ends
+    /// another call.
+    pub(crate) fn used_by_expiry(&self, late: &Open) -> u64
         requires read { AreTables self.now }
         requires step { Step (past self.now) (entry_is.Expire late.now.call.place) }
         requires known { In late.now (opens_of self.now.clients) }
@@ -164,21 +115,6 @@ impl<Q: WaitList, A: Allocator + Copy> Body<Q, A> {
             need_in (h ▷ entry_is.Expire late.now.call.place) + result ≡ need_in h }
     {
         if is_wait(late.call.role) { 1 } else { 3 }
-    }
-
-    // Returns how many entries are no longer reserved after a forced entry.
-    pub(crate) fn used_by_forced(&self, forced: &Forced) -> u64
-        requires read { AreTables self.now }
-        requires step { Step (past self.now) (entry_of (past self.now) forced.now) }
-        requires known { IsFor (opens_of self.now.clients) forced.now }
-        ensures { let h = past self.now in
-            need_in (h ▷ entry_of h forced.now) + result ≡ need_in h }
-    {
-        match forced {
-            Forced::Serve(open) => self.used_by_service(open),
-            Forced::Yield(_) => 1,
-            Forced::Expire(late) => self.used_by_expiry(late),
-        }
     }
 
     /// Returns whether the history, with an event's entry and the need after it, would pass its

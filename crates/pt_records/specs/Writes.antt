@@ -3,7 +3,6 @@ use Rattle.std.specs.Prelude.{ℕ, zero, suc, ◌+◌, ◌≡◌, ◌==◌, ◌&
 use Rattle.std.specs.Prelude.{Option, Some, None, is_none, length, option_map, if◌then◌else◌}
 use Rattle.std.specs.Option.{option_and_then}
 use Rattle.pt_types.specs.declared.outcome.Outcome.{Outcome}
-use Rattle.pt_types.specs.declared.time.Clock.{Clock}
 use Rattle.pt_table.specs.declared.clients.ClientRow.{ClientRow}
 use Rattle.pt_table.specs.declared.objects.ObjectRow.{ObjectRow}
 use Rattle.pt_table.specs.ClientRows.{client_value}
@@ -18,7 +17,6 @@ use Rattle.pt_rwlock.specs.RwlockState.{made as new_rwlock}
 use Rattle.pt_model.specs.declared.entry.Cause.{Cause}
 use Rattle.pt_model.specs.Records.{Told}
 use Rattle.pt_model.specs.WaitingCall.{is_arrival, is_wait}
-use Rattle.pt_model.specs.declared.waiting_call.Role.TheVariants.{ForCond}
 use Rattle.pt_records.specs.declared.clients.Caller.{Caller}
 use Rattle.pt_records.specs.declared.clients.Open.{Open}
 use Rattle.pt_records.specs.declared.objects.Object.{Object}
@@ -86,27 +84,6 @@ closed_at b log v = if has_open (arrived_at b) v then closed (answer_to_open log
 -- a row after the entry at place k broadcasts at the condition  [XSH pthread_cond_broadcast]
 abbrev pub woken_at : ℕ → ℕ → Cause → Caller → Caller
 woken_at q k cause v = if has_open (still_waits_at q) v then moved_at k cause v else v
-
--- a row after its client's call at place j began to wait at condition q with mutex m, without a
--- deadline  [XSH pthread_cond_wait]
-abbrev pub waiting_by : ℕ → ℕ → ℕ → ℕ → Clock → Caller → Caller
-waiting_by j c q m k v =
-    record v {
-      «open» = Some (record {
-        call = record {
-          place = j;
-          client = c;
-          priority = v.priority;
-          object = q;
-          role = ForCond m;
-          clock = k;
-          deadline = None;
-        };
-        moved = None;
-      });
-      latest = Some j;
-      answer = None;
-    }
 
 module _ {A : Type 0} where
   -- no two rows have the same name

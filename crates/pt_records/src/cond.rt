@@ -1,10 +1,10 @@
 //! Rows of clients that wait at a condition variable.
 
-ghost use Rattle.std.specs.Prelude.{None, Some, ◌<◌, ◌≡◌, false, true};
+ghost use Rattle.std.specs.Prelude.{Some, ◌<◌, ◌≡◌, false, true};
 ghost use Rattle.pt_records.specs.Callers.{Once, has_open, moved_at, open_in, opens_of};
 ghost use Rattle.pt_table.specs.ClientRows.{client_value, has_client, nth_value};
 ghost use Rattle.pt_records.specs.Writes.{RewritesCallers, WritesCaller, rewritten_nth};
-ghost use Rattle.pt_records.specs.Writes.{still_waits_at, waiting_by, woken_at};
+ghost use Rattle.pt_records.specs.Writes.{still_waits_at, woken_at};
 ghost use Rattle.pt_model.specs.Found.{passes};
 ghost use Rattle.pt_records.specs.OpenRows.{returns_to as returns_to_it};
 ghost use Rattle.std.specs.List.{list_any};
@@ -12,44 +12,10 @@ ghost use Rattle.std.specs.List.{list_any};
 use crate::calls::{is_moved, open_at};
 use crate::clients::{Caller, Open};
 use pt_model::Cause;
-use pt_model::waiting_call::{Move, Role, WaitingCall, is_wait};
+use pt_model::waiting_call::{Move, Role, is_wait};
 use pt_table::Clients;
-use pt_types::{ClientId, Clock, ObjectId, Priority};
+use pt_types::{ClientId, ObjectId};
 use std::alloc::Allocator;
-
-/// Stores the call at this place as its client's latest call: a wait at condition `q` with mutex
-/// `m` and without a deadline. Returns the client's priority.  [XSH pthread_cond_wait]
-#[inline(always)]
-pub fn wait_at<A: Allocator + Copy>(
-    clients: &mut Clients<Caller, A>,
-    c: ClientId,
-    place: u64,
-    q: ObjectId,
-    m: ObjectId,
-    clock: Clock,
-) -> Priority
-    requires { has_client clients.old c ≡ true }
-    ensures written { (v : Caller) → client_value clients.old c ≡ Some v
-        → WritesCaller clients.old clients.new c (waiting_by place c q m clock v) }
-    ensures priority { (v : Caller) → client_value clients.old c ≡ Some v → result ≡ v.priority }
-{
-    let row = clients.at_mut(c.0).unwrap();
-    row.open = Some(Open {
-        call: WaitingCall {
-            place,
-            client: c,
-            priority: row.priority.level() as u64,
-            object: q,
-            role: Role::ForCond(m),
-            clock,
-            deadline: None,
-        },
-        moved: None,
-    });
-    row.latest = Some(place);
-    row.answer = None;
-    row.priority
-}
 
 // Marks the client's open call, if it has one, as moved by the entry at this place.
 fn move_open(caller: &mut Caller, at: u64, cause: Cause)

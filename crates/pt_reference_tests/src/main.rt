@@ -1,7 +1,7 @@
 //! The program `pt_reference_tests`: plays scripts by the plain slow program, entry by entry.
 //!
-//! The folder `data` has four groups: `rows`, worked rows of docs/ROWS.md; `limits`, histories that
-//! become full; `questions`, scripts that ask what is read off a history; and `drawn`, scripts
+//! The folder `data` has four groups: `rows`, worked rows (`tools/list rows`); `limits`, histories
+//! that become full; `questions`, scripts that ask what is read off a history; and `drawn`, scripts
 //! drawn at random. A second implementation of the rules made the text that each script must give.
 //! A group has folders, and a folder has cases: the files NAME.script and NAME.expected.
 //!

@@ -10,7 +10,7 @@ use pt_model::Event;
 use pt_types::Call;
 
 /// Returns whether two calls have the same word and the same arguments.
-fn same_call(a: &Call, b: &Call) -> bool
+pub fn same_call(a: &Call, b: &Call) -> bool
     ensures yes { result ≡ true → a.now ≡ b.now }
     ensures no { result ≡ false → a.now ≢ b.now }
 {

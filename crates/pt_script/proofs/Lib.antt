@@ -1,7 +1,9 @@
--- Stops: what the writer took of a text, and what became of the lines whose answers were written
-mod Stops
+-- Tellings: what was answered is told so
+mod Tellings
+-- Stops: what the writer took of a text, and what became of the lines that it tells of
+pub mod Stops
 -- Wholes: a whole script, read piece by piece
-mod Wholes
+pub mod Wholes
 -- Noted: the line that made a call is noted at its place, and is the line of the call's client
 mod Noted
 -- Settled: a history goes on with forced entries until nothing is forced

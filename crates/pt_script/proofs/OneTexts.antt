@@ -1,14 +1,17 @@
 -- There is one text for all lines, and what begins the text of the first lines begins it.
 use Rattle.std.proofs.Common.{◌≡◌, ℕ, zero, suc, Bool, true, false, not, ◌&&◌, List, [], ◌∷◌, ◌++◌}
-use Rattle.std.proofs.Common.{length, take, drop, Option, Some, None, MatchOption, Result, Ok, Err}
+use Rattle.std.proofs.Common.{length, take, drop, map, Option, Some, None, MatchOption, Result, Ok}
+use Rattle.std.proofs.Common.{Err}
 use Rattle.std.proofs.Common.{refl, sym, ap, ◌∙◌, subst, append_assoc, arith}
 use Rattle.std.proofs.Math.Seq.{drop-append_seam}
 use Rattle.std.proofs.lemmas.Bool.{and_parts}
-use Rattle.std.proofs.lemmas.List.{take-append-drop}
+use Rattle.std.proofs.lemmas.List.{map-append, take-append-drop}
 use Rattle.pt_types.specs.declared.outcome.Refusal.{Refusal}
 use Rattle.pt_types.specs.declared.outcome.Refusal.TheVariants.{Enomem}
 use Rattle.pt_grammar.specs.declared.client.Who.{Who}
 use Rattle.pt_grammar.specs.declared.script_line.ScriptLine.{ScriptLine}
+use Rattle.pt_grammar.specs.Lines.{lines}
+use Rattle.pt_grammar.specs.Script.{script_of}
 use Rattle.pt_model.specs.declared.entry.Entry.{Entry}
 use Rattle.pt_model.specs.declared.entry.Event.{Event}
 use Rattle.pt_model.specs.Starts.{Start}
@@ -28,10 +31,9 @@ use Rattle.pt_engine.specs.Scripts.{Script, begun, core_of, line_id, calls_with,
 use Rattle.pt_engine.specs.Scripts.{event_of_line, greeting, refusal_text, told_text}
 use Rattle.pt_engine.specs.Says.{SaysAll, SaysOf, SaysTo, IsRefused, IsAccepted, counted}
 use Rattle.pt_engine.specs.Says.{opened_for, refusal_of_event, refuses, lacks, accepts}
-use Rattle.pt_script.specs.Ends.{lines_of}
 use Rattle.pt_engine.specs.Engines.{IsLegal}
 use Rattle.pt_script.specs.Laws.{BeginningsOfAll, EachText, OneText, SaysAllMet, SaysMet, SaysToMet}
-use Rattle.pt_script.specs.Laws.{accepted, refused, unmet}
+use Rattle.pt_script.specs.Laws.{accepted, lines_of, refused, unmet}
 use Rattle.pt_engine.proofs.Opened.{legal_follow, legal_next, legal_opened, legal_settle}
 use Rattle.pt_engine.proofs.Opened.{limit_opened, same_start}
 use Rattle.pt_engine.proofs.Runs.{says_join}
@@ -380,14 +382,18 @@ legal_all s (line ∷ more) last text legal says =
 
 pub beginnings_of_all : BeginningsOfAll
 beginnings_of_all bytes text b =
-    let lines = lines_of bytes in
-    let legal = legal_all begun (take b.count lines) b.last b.whole begun_legal b.says in
-    let rest = can_say_all (λ k. false) b.last (drop b.count lines) legal in
+    let first = take b.count (lines bytes) in
+    let later = drop b.count (lines bytes) in
+    let all_lines : map script_of first ++ map script_of later ≡ lines_of bytes =
+    sym (map-append script_of first later)
+    ∙ ap (map script_of) (take-append-drop b.count (lines bytes)) in
+    let legal = legal_all begun (map script_of first) b.last b.whole begun_legal b.tells in
+    let rest = can_say_all (λ k. false) b.last (map script_of later) legal in
     let says =
-    subst (λ ls. SaysAll begun ls rest.0 (b.whole ++ rest.1)) (take-append-drop b.count lines)
-    (says_join begun (take b.count lines) b.last b.whole (drop b.count lines) rest.0 rest.1 b.says
-    (said_all (λ k. false) b.last (drop b.count lines) rest.0 rest.1 rest.2)) in
-    let all = met_all begun lines rest.0 (b.whole ++ rest.1) says in
+    subst (λ ls. SaysAll begun ls rest.0 (b.whole ++ rest.1)) all_lines
+    (says_join begun (map script_of first) b.last b.whole (map script_of later) rest.0 rest.1
+    b.tells (said_all (λ k. false) b.last (map script_of later) rest.0 rest.1 rest.2)) in
+    let all = met_all begun (lines_of bytes) rest.0 (b.whole ++ rest.1) says in
     record {
       wanted = all.0;
       last = rest.0;

@@ -1,4 +1,4 @@
--- What the writer took of a text, and what became of the lines whose answers were written.
+-- What the writer took of a text, and what became of the lines that it tells of.
 use Rattle.std.proofs.Common.{◌≡◌, ℕ, ◌<◌, ◌≤◌, List, [], ◌++◌, length, take, drop, Result, Ok, Err}
 use Rattle.std.proofs.Common.{sym, ap, subst, ◌∙◌, append-nil}
 use Rattle.std.specs.Result.{IsErrAnd, IfOk, IfErr}
@@ -8,7 +8,7 @@ use Rattle.pt_grammar.specs.declared.cut.Cut.{Cut}
 use Rattle.pt_grammar.specs.Lines.{Held, to_come}
 use Rattle.pt_engine.specs.declared.fault.ScriptFault.{ScriptFault}
 use Rattle.pt_engine.specs.Scripts.{Script}
-use Rattle.pt_engine.specs.Engines.{Answers, IsAnswered}
+use Rattle.pt_script.specs.Tellings.{AreTold, IsTold, Telling}
 use Rattle.pt_script.specs.Texts.{BreaksOff, IsCutShort, Writing}
 use Rattle.pt_script.specs.Stops.{IsCutOff}
 
@@ -32,35 +32,36 @@ cut_short old bytes text rest joins grows some = record {
 }
 
 -- a buffer that was empty at first, after what was taken before
-pub onto_taken : (s : Script) (cuts : List Cut) (begun : List ℕ) (last : Script)
-    (out shown old : List ℕ) → IsAnswered s cuts begun last out → begun ≡ [] → shown ≡ out
-    → IsAnswered s cuts old last (old ++ shown)
-onto_taken s cuts begun last out shown old a empty shows = record {
+pub onto_taken : (T : Telling) (s : Script) (cuts : List Cut) (begun : List ℕ) (last : Script)
+    (out shown old : List ℕ) → IsTold T s cuts begun last out → begun ≡ [] → shown ≡ out
+    → IsTold T s cuts old last (old ++ shown)
+onto_taken T s cuts begun last out shown old a empty shows = record {
   text = a.text;
-  says = a.says;
+  tells = a.tells;
   grows = ap (λ xs. old ++ xs) (shows ∙ a.grows ∙ ap (λ xs. xs ++ a.text) empty);
 }
 
--- a buffer that was empty at first holds the text of the answers
-shown_text : (s : Script) (cuts : List Cut) (begun : List ℕ) (last : Script) (out shown : List ℕ)
-    (a : IsAnswered s cuts begun last out) → begun ≡ [] → shown ≡ out → shown ≡ a.text
-shown_text s cuts begun last out shown a empty shows =
+-- a buffer that was empty at first holds what is told of the lines
+shown_text : (T : Telling) (s : Script) (cuts : List Cut) (begun : List ℕ) (last : Script)
+    (out shown : List ℕ) (a : IsTold T s cuts begun last out) → begun ≡ [] → shown ≡ out
+    → shown ≡ a.text
+shown_text T s cuts begun last out shown a empty shows =
     shows ∙ a.grows ∙ ap (λ xs. xs ++ a.text) empty
 
--- the writer failed within these answers
-pub cut_off : (held fed : Held) (s : Script) (begun : List ℕ) (next : Held) (last : Script)
-    (out shown old : List ℕ) (w : Writing) → Answers fed s begun next last out → fed ≡ held
-    → begun ≡ [] → shown ≡ out → BreaksOff old shown w → IsCutOff held s old w
-cut_off held fed s begun next last out shown old w a feeds empty shows breaks = record {
+-- the writer failed within what is told of these lines
+pub cut_off : (T : Telling) (held fed : Held) (s : Script) (begun : List ℕ) (next : Held)
+    (last : Script) (out shown old : List ℕ) (w : Writing) → AreTold T fed s begun next last out
+    → fed ≡ held → begun ≡ [] → shown ≡ out → BreaksOff old shown w → IsCutOff T held s old w
+cut_off T held fed s begun next last out shown old w a feeds empty shows breaks = record {
   cuts = a.cuts;
   later = to_come next [];
   last = last;
-  text = a.answered.text;
+  text = a.told.text;
   given = ap (λ h. to_come h []) (sym feeds) ∙ a.given [];
-  says = a.answered.says;
+  tells = a.told.tells;
   breaks =
       subst (λ bytes. BreaksOff old bytes w)
-      (shown_text s a.cuts begun last out shown a.answered empty shows) breaks;
+      (shown_text T s a.cuts begun last out shown a.told empty shows) breaks;
 }
 
 -- a fault that is returned is this one
@@ -69,20 +70,20 @@ pub told_fault : {T : Type 0} (r : Result T ScriptFault) (fault : ScriptFault)
 told_fault (Ok done) fault P told holds = absurd told
 told_fault (Err f) fault P told holds = subst P (sym told) holds
 
--- the writer failed within the last answer
-pub last_cut_off : (held : Held) (s : Script) (begun : List ℕ) (last : Script)
-    (out shown old : List ℕ) (w : Writing) → IsAnswered s (to_come held []) begun last out
-    → begun ≡ [] → shown ≡ out → BreaksOff old shown w → IsCutOff held s old w
-last_cut_off held s begun last out shown old w a empty shows breaks = record {
+-- the writer failed within what is told of the last line
+pub last_cut_off : (T : Telling) (held : Held) (s : Script) (begun : List ℕ) (last : Script)
+    (out shown old : List ℕ) (w : Writing) → IsTold T s (to_come held []) begun last out
+    → begun ≡ [] → shown ≡ out → BreaksOff old shown w → IsCutOff T held s old w
+last_cut_off T held s begun last out shown old w a empty shows breaks = record {
   cuts = to_come held [];
   later = [];
   last = last;
   text = a.text;
   given = sym (append-nil (to_come held []));
-  says = a.says;
+  tells = a.tells;
   breaks =
       subst (λ bytes. BreaksOff old bytes w)
-      (shown_text s (to_come held []) begun last out shown a empty shows) breaks;
+      (shown_text T s (to_come held []) begun last out shown a empty shows) breaks;
 }
 
 -- what holds of each success

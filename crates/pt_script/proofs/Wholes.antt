@@ -1,9 +1,7 @@
 -- A whole script, read piece by piece.
 use Rattle.std.proofs.Common.{◌≡◌, ℕ, suc, ◌+◌, ◌<◌, ◌≤◌, ◌==◌, Bool, true, false, ◌||◌, ◌&&◌}
-use Rattle.std.proofs.Common.{nat_lt, cond, List, [], ◌∷◌, ◌++◌, length, map, take, refl, sym, ap}
+use Rattle.std.proofs.Common.{nat_lt, cond, List, [], ◌∷◌, ◌++◌, length, take, refl, sym, ap}
 use Rattle.std.proofs.Common.{subst, ◌∙◌, append_assoc, append-nil, length-append, arith}
-use Rattle.std.proofs.lemmas.List.{map-append}
-use Rattle.std.proofs.Math.ListN.{length-map}
 use Rattle.std.proofs.Math.Seq.{take-append_seam}
 use Rattle.std.proofs.lemmas.Bool.Decides.{Decides-eqb}
 use mathlib.Core.List.{IsPrefix}
@@ -12,17 +10,14 @@ use Rattle.pt_io.specs.Devices.{moves_none}
 use Rattle.pt_grammar.specs.declared.cut.Cut.{Cut}
 use Rattle.pt_grammar.specs.Cuts.{cut_of}
 use Rattle.pt_grammar.specs.Lines.{Held, IsBegun, lines, lines_after, lines_past_newline, to_come}
-use Rattle.pt_grammar.specs.Script.{script_of}
 use Rattle.pt_engine.specs.Scripts.{Script, begun}
-use Rattle.pt_engine.specs.Says.{SaysAll}
 use Rattle.pt_engine.specs.declared.fault.ScriptFault.{ScriptFault}
 use Rattle.pt_engine.specs.declared.fault.ScriptFault.TheVariants.{Read, Write, Memory}
-use Rattle.pt_script.specs.Ends.{AnswersWhole, BeginsScriptText, Course, IsBehind, IsFaultOf}
-use Rattle.pt_script.specs.Ends.{IsScriptText, lines_of}
-use Rattle.pt_engine.specs.Engines.{Answers}
+use Rattle.pt_script.specs.Ends.{BeginsScriptText, Course, IsBehind, IsFaultOf, IsScriptText}
+use Rattle.pt_script.specs.Ends.{TellsWhole}
 use Rattle.pt_script.specs.Stops.{IsCutOff, IsEnd, IsStopped}
+use Rattle.pt_script.specs.Tellings.{AreTold, IsTelling, Telling}
 use Rattle.pt_script.specs.Texts.{Writing}
-use Rattle.pt_engine.proofs.Runs.{says_join, says_all_seen}
 
 -- each line has a byte of its own, except one that was begun before
 few_after : (text bytes : List ℕ) → length (lines_after text bytes) ≤ length bytes + length text
@@ -66,82 +61,70 @@ pub fed_end : (held : Held) (piece : List ℕ)
 fed_end held piece = fed held piece [] ∙ ap (to_come held) (append-nil piece)
 
 -- as many lines were seen as were given, and the rest are still to come
-pub behind_few : (bytes : List ℕ) (held : Held) (s : Script) (text : List ℕ) (more : List ℕ)
-    → IsBehind bytes held s text
+pub behind_few : (T : Telling) (laws : IsTelling T) (bytes : List ℕ) (held : Held) (s : Script)
+    (text : List ℕ) (more : List ℕ) → IsBehind T bytes held s text
     → length s.seen + length (to_come held more) ≤ length (bytes ++ more)
-behind_few bytes held s text more b =
-    let seen = says_all_seen begun (map script_of b.cuts) s text b.says in
-    let same : length (map script_of b.cuts) ≡ length b.cuts = simp length-map in
+behind_few T laws bytes held s text more b =
+    let seen = laws.counts begun b.cuts s text b.tells in
     let all = ap length (b.given more) ∙ length-append b.cuts (to_come held more) in
     let few = few_lines (bytes ++ more) in
-    omega (arith, seen, same, all, few)
+    omega (arith, seen, all, few)
 
--- one more piece was answered
-pub behind_fed : (bytes piece : List ℕ) (held : Held) (s : Script) (text : List ℕ) (next : Held)
-    (last : Script) (new : List ℕ) → IsBehind bytes held s text
-    → Answers (record held { rest = held.rest ++ piece }) s text next last new
-    → IsBehind (bytes ++ piece) next last new
-behind_fed bytes piece held s text next last new b a = record {
+-- one more piece was told of
+pub behind_fed : (T : Telling) (laws : IsTelling T) (bytes piece : List ℕ) (held : Held)
+    (s : Script) (text : List ℕ) (next : Held) (last : Script) (new : List ℕ)
+    → IsBehind T bytes held s text
+    → AreTold T (record held { rest = held.rest ++ piece }) s text next last new
+    → IsBehind T (bytes ++ piece) next last new
+behind_fed T laws bytes piece held s text next last new b a = record {
   cuts = b.cuts ++ a.cuts;
   given = λ more.
       ap lines (append_assoc bytes piece more)
       ∙ b.given (piece ++ more)
       ∙ ap (λ xs. b.cuts ++ xs) (sym (fed held piece more) ∙ a.given more)
       ∙ sym (append_assoc b.cuts a.cuts (to_come next more));
-  says =
-      subst (λ t. SaysAll begun (map script_of (b.cuts ++ a.cuts)) last t) (sym a.answered.grows)
-      (subst (λ xs. SaysAll begun xs last (text ++ a.answered.text))
-      (sym (map-append script_of b.cuts a.cuts))
-      (says_join begun (map script_of b.cuts) s text (map script_of a.cuts) last a.answered.text
-      b.says a.answered.says));
+  tells =
+      subst (λ t. T begun (b.cuts ++ a.cuts) last t) (sym a.told.grows)
+      (laws.join begun b.cuts s text a.cuts last a.told.text b.tells a.told.tells);
 }
 
 -- the first lines of these bytes, with a text for them
-begins_at : (bytes : List ℕ) (xs later : List Cut) (last : Script) (whole text : List ℕ)
-    → lines bytes ≡ xs ++ later → SaysAll begun (map script_of xs) last whole → IsPrefix text whole
-    → (b : BeginsScriptText bytes text) × (b.whole ≡ whole)
-begins_at bytes xs later last whole text all says begins = (
+begins_at : (T : Telling) (bytes : List ℕ) (xs later : List Cut) (last : Script)
+    (whole text : List ℕ) → lines bytes ≡ xs ++ later → T begun xs last whole → IsPrefix text whole
+    → (b : BeginsScriptText T bytes text) × (b.whole ≡ whole)
+begins_at T bytes xs later last whole text all tells begins = (
   record {
-    count = length (map script_of xs);
+    count = length xs;
     last = last;
     whole = whole;
-    within =
-        let long = ap length split ∙ length-append (map script_of xs) (map script_of later) in
-        omega (arith, long);
-    says =
-        subst (λ ls. SaysAll begun ls last whole)
-        (sym (ap (take (length (map script_of xs))) split
-        ∙ take-append_seam (map script_of xs) (map script_of later))) says;
+    within = let long = ap length all ∙ length-append xs later in omega (arith, long);
+    tells =
+        subst (λ ls. T begun ls last whole)
+        (sym (ap (take (length xs)) all ∙ take-append_seam xs later)) tells;
     begins = begins;
   },
   refl,
 )
-  where
-    split : lines_of bytes ≡ map script_of xs ++ map script_of later
-    split = ap (map script_of) all ∙ map-append script_of xs later
 
 -- what was written is the text for the lines so far
-pub behind_begins : (bytes : List ℕ) (held : Held) (s : Script) (text more : List ℕ)
-    → IsBehind bytes held s text → BeginsScriptText (bytes ++ more) text
-behind_begins bytes held s text more b =
-    (begins_at (bytes ++ more) b.cuts (to_come held more) s text text (b.given more) b.says
+pub behind_begins : (T : Telling) (bytes : List ℕ) (held : Held) (s : Script) (text more : List ℕ)
+    → IsBehind T bytes held s text → BeginsScriptText T (bytes ++ more) text
+behind_begins T bytes held s text more b =
+    (begins_at T (bytes ++ more) b.cuts (to_come held more) s text text (b.given more) b.tells
     ([], append-nil text)).0
 
--- the writer failed within the answers to the next lines
-pub behind_cut_off : (bytes : List ℕ) (held next : Held) (s : Script) (text more : List ℕ)
-    (w : Writing) → IsBehind bytes held s text → to_come next [] ≡ to_come held more
-    → IsCutOff next s text w
-    → (b : BeginsScriptText (bytes ++ more) w.taken) × (length w.flushed < length b.whole)
-behind_cut_off bytes held next s text more w b same off =
-    let begins = begins_at (bytes ++ more) (b.cuts ++ off.cuts) off.later off.last
+-- the writer failed within what is told of the next lines
+pub behind_cut_off : (T : Telling) (laws : IsTelling T) (bytes : List ℕ) (held next : Held)
+    (s : Script) (text more : List ℕ) (w : Writing) → IsBehind T bytes held s text
+    → to_come next [] ≡ to_come held more → IsCutOff T next s text w
+    → (b : BeginsScriptText T (bytes ++ more) w.taken) × (length w.flushed < length b.whole)
+behind_cut_off T laws bytes held next s text more w b same off =
+    let begins = begins_at T (bytes ++ more) (b.cuts ++ off.cuts) off.later off.last
     (text ++ off.text) w.taken
     (b.given more
     ∙ ap (λ xs. b.cuts ++ xs) (sym same ∙ off.given)
     ∙ sym (append_assoc b.cuts off.cuts off.later))
-    (subst (λ xs. SaysAll begun xs off.last (text ++ off.text))
-    (sym (map-append script_of b.cuts off.cuts))
-    (says_join begun (map script_of b.cuts) s text (map script_of off.cuts) off.last off.text
-    b.says off.says)) (
+    (laws.join begun b.cuts s text off.cuts off.last off.text b.tells off.tells) (
       off.breaks.rest,
       ap (λ xs. xs ++ off.breaks.rest) off.breaks.taken
           ∙ append_assoc text off.breaks.front off.breaks.rest
@@ -153,87 +136,87 @@ behind_cut_off bytes held next s text more w b same off =
     let whole = ap length begins.1 in
     (begins.0, omega (arith, flushed, parts, some, whole))
 
--- all lines were answered
-pub behind_end : (bytes : List ℕ) (held : Held) (s : Script) (text new : List ℕ) (count entries : ℕ)
-    → IsBehind bytes held s text → IsEnd held s text new count entries
-    → IsScriptText bytes new count entries
-behind_end bytes held s text new count entries b end = record {
+-- all lines were told of
+pub behind_end : (T : Telling) (laws : IsTelling T) (bytes : List ℕ) (held : Held) (s : Script)
+    (text new : List ℕ) (count entries : ℕ) → IsBehind T bytes held s text
+    → IsEnd T held s text new count entries → IsScriptText T bytes new count entries
+behind_end T laws bytes held s text new count entries b end = record {
   last = end.last;
-  says = said;
-  lines = end.lines ∙ says_all_seen begun (lines_of bytes) end.last new said ∙ omega arith;
+  tells = told;
+  lines = end.lines ∙ laws.counts begun (lines bytes) end.last new told ∙ omega arith;
   history = end.history;
 }
   where
-    all : lines_of bytes ≡ map script_of b.cuts ++ map script_of (to_come held [])
-    all =
-        ap lines_of (sym (append-nil bytes))
-        ∙ ap (map script_of) (b.given [])
-        ∙ map-append script_of b.cuts (to_come held [])
+    all : lines bytes ≡ b.cuts ++ to_come held []
+    all = ap lines (sym (append-nil bytes)) ∙ b.given []
 
-    said : SaysAll begun (lines_of bytes) end.last new
-    said =
-        subst (λ t. SaysAll begun (lines_of bytes) end.last t) (sym end.answered.grows)
-        (subst (λ xs. SaysAll begun xs end.last (text ++ end.answered.text)) (sym all)
-        (says_join begun (map script_of b.cuts) s text (map script_of (to_come held []))
-        end.last end.answered.text b.says end.answered.says))
+    told : T begun (lines bytes) end.last new
+    told =
+        subst (λ t. T begun (lines bytes) end.last t) (sym end.told.grows)
+        (subst (λ xs. T begun xs end.last (text ++ end.told.text)) (sym all)
+        (laws.join begun b.cuts s text (to_come held []) end.last end.told.text b.tells
+        end.told.tells))
 
 -- what was written, after more bytes have come
-pub begins_given : (bytes given more : List ℕ) (held : Held) (s : Script) (text : List ℕ)
-    → IsBehind bytes held s text → given ≡ bytes ++ more → BeginsScriptText given text
-begins_given bytes given more held s text b gives =
-    subst (λ bs. BeginsScriptText bs text) (sym gives) (behind_begins bytes held s text more b)
+pub begins_given : (T : Telling) (bytes given more : List ℕ) (held : Held) (s : Script)
+    (text : List ℕ) → IsBehind T bytes held s text → given ≡ bytes ++ more
+    → BeginsScriptText T given text
+begins_given T bytes given more held s text b gives =
+    subst (λ bs. BeginsScriptText T bs text) (sym gives) (behind_begins T bytes held s text more b)
 
--- what was written, if answering was stopped
-pub stopped_begins : (bytes given more : List ℕ) (held next : Held) (s : Script) (text : List ℕ)
-    (w : Writing) (fault : ScriptFault) → IsBehind bytes held s text → given ≡ bytes ++ more
-    → to_come next [] ≡ to_come held more → IsStopped fault next s text w
-    → BeginsScriptText given w.taken
-stopped_begins bytes given more held next s text w Read b gives same stop = absurd stop
-stopped_begins bytes given more held next s text w Write b gives same stop =
-    subst (λ bs. BeginsScriptText bs w.taken) (sym gives)
-    (behind_cut_off bytes held next s text more w b same stop).0
-stopped_begins bytes given more held next s text w Memory b gives same stop =
-    subst (λ t. BeginsScriptText given t) (sym stop.taken)
-    (begins_given bytes given more held s text b gives)
+-- what was written, if telling was stopped
+pub stopped_begins : (T : Telling) (laws : IsTelling T) (bytes given more : List ℕ)
+    (held next : Held) (s : Script) (text : List ℕ) (w : Writing) (fault : ScriptFault)
+    → IsBehind T bytes held s text → given ≡ bytes ++ more → to_come next [] ≡ to_come held more
+    → IsStopped T fault next s text w → BeginsScriptText T given w.taken
+stopped_begins T laws bytes given more held next s text w Read b gives same stop = absurd stop
+stopped_begins T laws bytes given more held next s text w Write b gives same stop =
+    subst (λ bs. BeginsScriptText T bs w.taken) (sym gives)
+    (behind_cut_off T laws bytes held next s text more w b same stop).0
+stopped_begins T laws bytes given more held next s text w Memory b gives same stop =
+    subst (λ t. BeginsScriptText T given t) (sym stop.taken)
+    (begins_given T bytes given more held s text b gives)
 
--- all whole lines in these bytes were answered
-pub whole_answered : (bytes : List ℕ) (held : Held) (s : Script) (text given new : List ℕ)
-    → IsBehind bytes held s text → IsBegun held → given ≡ bytes → new ≡ text
-    → AnswersWhole given new
-whole_answered bytes held s text given new b begins same wrote =
-    subst (λ bs. AnswersWhole bs new) (sym same)
-    (subst (λ t. AnswersWhole bytes t) (sym wrote)
+-- all whole lines in these bytes were told of
+pub whole_told : (T : Telling) (bytes : List ℕ) (held : Held) (s : Script)
+    (text given new : List ℕ) → IsBehind T bytes held s text → IsBegun held → given ≡ bytes
+    → new ≡ text → TellsWhole T given new
+whole_told T bytes held s text given new b begins same wrote =
+    subst (λ bs. TellsWhole T bs new) (sym same)
+    (subst (λ t. TellsWhole T bytes t) (sym wrote)
     (record { rest = held; last = s; behind = b; begun = begins }))
 
--- why answering was stopped
-pub stopped_why : (bytes more : List ℕ) (held next : Held) (s : Script) (text : List ℕ) (c : Course)
-    (fault : ScriptFault) → IsBehind bytes held s text → IsBegun held
-    → c.reader.given ≡ bytes ++ more → c.reader.earlier ≡ bytes
+-- why telling was stopped
+pub stopped_why : (T : Telling) (laws : IsTelling T) (bytes more : List ℕ) (held next : Held)
+    (s : Script) (text : List ℕ) (c : Course) (fault : ScriptFault) → IsBehind T bytes held s text
+    → IsBegun held → c.reader.given ≡ bytes ++ more → c.reader.earlier ≡ bytes
     → to_come next [] ≡ to_come held more → c.reader.failures ≡ 0
-    → IsStopped fault next s text c.writer → IsFaultOf c fault
-stopped_why bytes more held next s text c Read b begins gives before same read stop = absurd stop
-stopped_why bytes more held next s text c Write b begins gives before same read stop =
+    → IsStopped T fault next s text c.writer → IsFaultOf T c fault
+stopped_why T laws bytes more held next s text c Read b begins gives before same read stop =
+    absurd stop
+stopped_why T laws bytes more held next s text c Write b begins gives before same read stop =
     let off =
     subst
-    (λ bs. (t : BeginsScriptText bs c.writer.taken)
+    (λ bs. (t : BeginsScriptText T bs c.writer.taken)
     × (length c.writer.flushed < length t.whole)) (sym gives)
-    (behind_cut_off bytes held next s text more c.writer b same stop) in
+    (behind_cut_off T laws bytes held next s text more c.writer b same stop) in
     record {
       cause = stop.breaks.cause;
       begins = off.0;
       short = off.1;
-      answers = whole_answered bytes held s text c.reader.earlier c.writer.flushed b begins
-          before stop.breaks.flushed;
+      whole = whole_told T bytes held s text c.reader.earlier c.writer.flushed b begins before
+          stop.breaks.flushed;
       read = read;
     }
-stopped_why bytes more held next s text c Memory b begins gives before same read stop = record {
-  read = read;
-  wrote = stop.failures;
-  accepted = stop.rejections;
-  answers = whole_answered bytes held s text c.reader.earlier c.writer.taken b begins before
-      stop.taken;
-  flushed = stop.flushed ∙ sym stop.taken;
-}
+stopped_why T laws bytes more held next s text c Memory b begins gives before same read stop =
+    record {
+      read = read;
+      wrote = stop.failures;
+      accepted = stop.rejections;
+      whole = whole_told T bytes held s text c.reader.earlier c.writer.taken b begins before
+          stop.taken;
+      flushed = stop.flushed ∙ sym stop.taken;
+    }
 
 -- before the first read the reader gave nothing, and a writer flushed nothing that it did not take
 pub nothing_before : (front bytes : List ℕ) → IsPrefix front bytes → bytes ≡ [] → front ≡ []
@@ -256,11 +239,11 @@ pub never_ended : (before after : Bool) → before ≡ false → after ≡ (befo
 never_ended before after none says = says ∙ ap (λ b. b || false) none
 
 -- before the first byte no line has come, and none is begun
-pub behind_begun : (given : List ℕ) (held : Held) (s : Script) (text : List ℕ) → given ≡ []
-    → held ≡ record { rest = []; dropping = false } → s ≡ begun → text ≡ []
-    → IsBehind given held s text
-behind_begun given held s text eg eh es et =
-    rw (eg, eh, es, et) (record { cuts = []; given = λ more. refl; says = (refl, refl) })
+pub behind_begun : (T : Telling) (laws : IsTelling T) (given : List ℕ) (held : Held) (s : Script)
+    (text : List ℕ) → given ≡ [] → held ≡ record { rest = []; dropping = false } → s ≡ begun
+    → text ≡ [] → IsBehind T given held s text
+behind_begun T laws given held s text eg eh es et =
+    rw (eg, eh, es, et) (record { cuts = []; given = λ more. refl; tells = laws.none begun })
 
 pub begun_held : (held : Held) → held ≡ record { rest = []; dropping = false } → IsBegun held
 begun_held held e =

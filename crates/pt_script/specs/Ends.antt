@@ -1,53 +1,48 @@
--- Ends: what a whole script has read and written.
-use Rattle.std.specs.Prelude.{◌≡◌, ℕ, ◌-◌, ◌≤◌, ◌<◌, ◌⊎◌, ◌++◌, List, length, take, map, Bool}
+-- Ends: what a whole script has read, and what is written of it.
+use Rattle.std.specs.Prelude.{◌≡◌, ℕ, ◌-◌, ◌≤◌, ◌<◌, ◌⊎◌, ◌++◌, List, length, take, Bool}
 use Rattle.std.specs.Prelude.{false}
 use mathlib.Core.List.{IsPrefix}
-use Rattle.pt_grammar.specs.declared.script_line.ScriptLine.{ScriptLine}
 use Rattle.pt_grammar.specs.declared.cut.Cut.{Cut}
 use Rattle.pt_grammar.specs.Lines.{Held, IsBegun, lines, to_come}
-use Rattle.pt_grammar.specs.Script.{script_of}
 use Rattle.pt_engine.specs.declared.fault.ScriptFault.{ScriptFault}
 use Rattle.pt_engine.specs.declared.fault.ScriptFault.TheVariants.{Read, Write, Memory}
 use Rattle.pt_model.specs.Histories.{place}
 use Rattle.pt_legal.specs.Cores.{past}
 use Rattle.pt_engine.specs.Scripts.{Script, begun, core_of}
-use Rattle.pt_engine.specs.Says.{SaysAll}
+use Rattle.pt_script.specs.Tellings.{Telling}
 use Rattle.pt_script.specs.Texts.{IsBroken, Writing}
-
--- the lines in a script's bytes, as they are read
-abbrev pub lines_of : List ℕ → List ScriptLine
-lines_of bytes = map script_of (lines bytes)
 
 -- exactly what may be written for these bytes was written; the count is that of the lines, and next
 -- is the place of the next entry
-pub record IsScriptText (bytes text : List ℕ) (count next : ℕ) : Type 0 where
+pub record IsScriptText (Tells : Telling) (bytes text : List ℕ) (count next : ℕ) : Type 0 where
   pub last : Script
-  pub says : SaysAll begun (lines_of bytes) last text
-  pub lines : count ≡ length (lines_of bytes)
+  pub tells : Tells begun (lines bytes) last text
+  pub lines : count ≡ length (lines bytes)
   pub history : next ≡ place (past (core_of last))
 
 -- what was written begins a text that may be written for the first lines of these bytes
-pub record BeginsScriptText (bytes text : List ℕ) : Type 0 where
+pub record BeginsScriptText (Tells : Telling) (bytes text : List ℕ) : Type 0 where
   pub count : ℕ
   pub last : Script
   pub whole : List ℕ
-  pub within : count ≤ length (lines_of bytes)
-  pub says : SaysAll begun (take count (lines_of bytes)) last whole
+  pub within : count ≤ length (lines bytes)
+  pub tells : Tells begun (take count (lines bytes)) last whole
   pub begins : IsPrefix text whole
 
--- lines from the front of these bytes were answered by this text, and a cutter holds the rest of
--- the bytes
-pub record IsBehind (bytes : List ℕ) (held : Held) (s : Script) (text : List ℕ) : Type 0 where
+-- lines from the front of these bytes were told of by this text, and a cutter holds the rest of the
+-- bytes
+pub record IsBehind (Tells : Telling) (bytes : List ℕ) (held : Held) (s : Script)
+    (text : List ℕ) : Type 0 where
   pub cuts : List Cut
   pub given : (more : List ℕ) → lines (bytes ++ more) ≡ cuts ++ to_come held more
-  pub says : SaysAll begun (map script_of cuts) s text
+  pub tells : Tells begun cuts s text
 
--- each whole line in these bytes was answered, by this text and nothing else; the rest of the bytes
+-- each whole line in these bytes was told of, by this text and nothing else; the rest of the bytes
 -- is the beginning of a line
-pub record AnswersWhole (bytes text : List ℕ) : Type 0 where
+pub record TellsWhole (Tells : Telling) (bytes text : List ℕ) : Type 0 where
   pub rest : Held
   pub last : Script
-  pub behind : IsBehind bytes rest last text
+  pub behind : IsBehind Tells bytes rest last text
   pub begun : IsBegun rest
 
 -- what a reader gave, what it gave before its latest read, how often it failed, the number of reads
@@ -86,36 +81,36 @@ IsCutInput c =
     (c.reader.failures ≡ 1)
     ⊎ ((c.reader.failures ≡ 0) × (c.reader.reads ≡ c.limit) × (c.limit ≤ length c.reader.given))
 
--- a read fault: no end was reported, and each line that had come in whole is answered, written and
--- flushed
-pub record IsReadFault (c : Course) : Type 0 where
+-- a read fault: no end was reported, and what is told of each line that had come in whole is
+-- written and flushed
+pub record IsReadFault (Tells : Telling) (c : Course) : Type 0 where
   pub cause : IsCutInput c
   pub no_end : c.reader.has_ended ≡ false
-  pub answers : AnswersWhole c.reader.given c.writer.taken
+  pub whole : TellsWhole Tells c.reader.given c.writer.taken
   pub flushed : c.writer.flushed ≡ c.writer.taken
   pub wrote : c.writer.failures ≡ 0
   pub accepted : c.writer.rejections ≡ 0
 
--- a write fault: the writer broke, and not all that had to be written is flushed; but the answers
--- to each line that was whole before the latest read are
-pub record IsWriteFault (c : Course) : Type 0 where
+-- a write fault: the writer broke, and not all that had to be written is flushed; but what is told
+-- of each line that was whole before the latest read is
+pub record IsWriteFault (Tells : Telling) (c : Course) : Type 0 where
   pub cause : IsBroken c.writer.failures c.writer.rejections
-  pub begins : BeginsScriptText c.reader.given c.writer.taken
+  pub begins : BeginsScriptText Tells c.reader.given c.writer.taken
   pub short : length c.writer.flushed < length begins.whole
-  pub answers : AnswersWhole c.reader.earlier c.writer.flushed
+  pub whole : TellsWhole Tells c.reader.earlier c.writer.flushed
   pub read : c.reader.failures ≡ 0
 
--- lack of memory: neither device failed, and each line that was whole before the latest read is
--- answered, written and flushed
-pub record IsWantOfMemory (c : Course) : Type 0 where
+-- lack of memory: neither device failed, and what is told of each line that was whole before the
+-- latest read is written and flushed
+pub record IsWantOfMemory (Tells : Telling) (c : Course) : Type 0 where
   pub read : c.reader.failures ≡ 0
   pub wrote : c.writer.failures ≡ 0
   pub accepted : c.writer.rejections ≡ 0
-  pub answers : AnswersWhole c.reader.earlier c.writer.taken
+  pub whole : TellsWhole Tells c.reader.earlier c.writer.taken
   pub flushed : c.writer.flushed ≡ c.writer.taken
 
 -- when each fault occurs
-abbrev pub IsFaultOf : Course → ScriptFault → Type 0
-IsFaultOf c Read = IsReadFault c
-IsFaultOf c Write = IsWriteFault c
-IsFaultOf c Memory = IsWantOfMemory c
+abbrev pub IsFaultOf : Telling → Course → ScriptFault → Type 0
+IsFaultOf Tells c Read = IsReadFault Tells c
+IsFaultOf Tells c Write = IsWriteFault Tells c
+IsFaultOf Tells c Memory = IsWantOfMemory Tells c

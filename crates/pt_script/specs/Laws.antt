@@ -1,9 +1,11 @@
 -- Laws: which line each answer belongs to, and that there is one text for all lines.
 use Rattle.std.specs.Prelude.{◌≡◌, ℕ, zero, suc, ◌↔◌, ◌++◌, Bool, true, false, not, ◌&&◌, List, []}
-use Rattle.std.specs.Prelude.{◌∷◌, Some, Result, Ok, Err}
+use Rattle.std.specs.Prelude.{◌∷◌, Some, Result, Ok, Err, map}
 use mathlib.Core.List.{IsPrefix}
 use Rattle.pt_types.specs.declared.outcome.Refusal.{Refusal}
 use Rattle.pt_grammar.specs.declared.script_line.ScriptLine.{ScriptLine}
+use Rattle.pt_grammar.specs.Lines.{lines}
+use Rattle.pt_grammar.specs.Script.{script_of}
 use Rattle.pt_model.specs.declared.entry.Event.{Event}
 use Rattle.pt_model.specs.Searches.{Each}
 use Rattle.pt_model.specs.Records.{Told}
@@ -13,7 +15,8 @@ use Rattle.pt_engine.specs.declared.line_id.LineId.{LineId}
 use Rattle.pt_engine.specs.Scripts.{Script, begun, line_id, event_of_line, line_at, number_of}
 use Rattle.pt_engine.specs.Scripts.{refusal_text}
 use Rattle.pt_engine.specs.Says.{SaysAll, IsRefused, IsUnmet, IsAccepted, counted}
-use Rattle.pt_script.specs.Ends.{BeginsScriptText, lines_of}
+use Rattle.pt_script.specs.Tellings.{answers}
+use Rattle.pt_script.specs.Ends.{BeginsScriptText}
 
 -- the line that made an answer's call is noted, and it is the client's own
 pub record HasLine (s : Script) (t : Told) : Type 0 where
@@ -76,6 +79,10 @@ EachText =
     → SaysAll begun lines last text
     ↔ ((wanted : ℕ → Bool) × SaysAllMet wanted begun lines last text)
 
+-- the lines in a script's bytes, as they are read
+abbrev pub lines_of : List ℕ → List ScriptLine
+lines_of bytes = map script_of (lines bytes)
+
 -- what was written begins the text of all lines of these bytes
 pub record BeginsAll (bytes text : List ℕ) : Type 0 where
   pub wanted : ℕ → Bool
@@ -86,4 +93,5 @@ pub record BeginsAll (bytes text : List ℕ) : Type 0 where
 
 -- Beginnings: what begins the text of the first lines begins the text of all lines.
 abbrev pub BeginningsOfAll : Type 0
-BeginningsOfAll = (bytes text : List ℕ) → BeginsScriptText bytes text → BeginsAll bytes text
+BeginningsOfAll =
+    (bytes text : List ℕ) → BeginsScriptText answers bytes text → BeginsAll bytes text

@@ -1,7 +1,8 @@
--- Programs: how a program that answers a script ends, and what it reports.
+-- Programs: how a program that tells what came of a script ends, and what it reports.
 use Rattle.std.specs.Prelude.{◌≡◌, ℕ, ◌++◌, ◌⊎◌, true, List, [], ◌∷◌, codes}
 use Rattle.pt_engine.specs.declared.fault.ScriptFault.{ScriptFault}
 use Rattle.pt_engine.specs.declared.fault.ScriptFault.TheVariants.{Read, Write, Memory}
+use Rattle.pt_script.specs.Tellings.{Telling}
 use Rattle.pt_script.specs.Texts.{IsBroken, Writing}
 use Rattle.pt_script.specs.Ends.{Course, IsFaultOf, IsScriptText}
 
@@ -35,10 +36,10 @@ Reports old line w =
     ((w.taken ≡ old ++ line) × (w.flushed ≡ old ++ line)) ⊎ IsCutReport old line w
 
 -- all was read, and its whole text is written and flushed
-pub record IsDone (c : Course) : Type 0 where
+pub record IsDone (Tells : Telling) (c : Course) : Type 0 where
   pub lines : ℕ
   pub entries : ℕ
-  pub text : IsScriptText c.reader.given c.writer.taken lines entries
+  pub text : IsScriptText Tells c.reader.given c.writer.taken lines entries
   pub flushed : c.writer.flushed ≡ c.writer.taken
   pub ended : c.reader.has_ended ≡ true
   pub read : c.reader.failures ≡ 0
@@ -46,7 +47,8 @@ pub record IsDone (c : Course) : Type 0 where
 
 -- how the program ends: with status 0 and no report, if all is done; otherwise with the status of a
 -- fault, which is reported
-pub data EndsWith (c : Course) (old : List ℕ) (errors : Writing) (status : ℕ) : Type 0 where
-  done : IsDone c → errors.taken ≡ old → status ≡ 0 → EndsWith c old errors status
-  stops : (fault : ScriptFault) → IsFaultOf c fault → Reports old (report_of fault) errors
-      → status ≡ status_of fault → EndsWith c old errors status
+pub data EndsWith (Tells : Telling) (c : Course) (old : List ℕ) (errors : Writing)
+    (status : ℕ) : Type 0 where
+  done : IsDone Tells c → errors.taken ≡ old → status ≡ 0 → EndsWith Tells c old errors status
+  stops : (fault : ScriptFault) → IsFaultOf Tells c fault → Reports old (report_of fault) errors
+      → status ≡ status_of fault → EndsWith Tells c old errors status

@@ -17,12 +17,16 @@
 //! errors. Its contract also covers the exit status and the report of a fault. A program that has
 //! no memory for a core reports the fault `Memory` itself.
 //!
+//! The definitions are for any telling of lines, of which the answers alone are one. `pt_explain`
+//! has another.
+//!
 //! Two things are shown only by tests: that the fault `Memory` comes only after a refused growth,
 //! and how the input is split into reads.
 #![tactic(auto)]
 
 mod laws;
 mod program;
+mod telling;
 mod whole;
 mod writing;
 
@@ -30,3 +34,4 @@ pub use laws::{law_answers_have_lines, law_beginnings, law_one_text};
 pub use program::{answer, report, status_of};
 pub use pt_engine::{ENTRIES_BETWEEN_SEALS, ScriptFault};
 pub use whole::{MOST_READS, ScriptEnd, script, script_within};
+pub use writing::deliver;

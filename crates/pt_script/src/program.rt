@@ -3,6 +3,7 @@ ghost use Rattle.pt_model.specs.Starts.{nothing};
 ghost use Rattle.pt_legal.specs.Cores.{shown};
 ghost use Rattle.pt_engine.specs.Scripts.{entries_between_seals};
 ghost use Rattle.pt_script.specs.Ends.{reading};
+ghost use Rattle.pt_script.specs.Tellings.{answers};
 ghost use Rattle.pt_script.specs.Texts.{writing};
 ghost use Rattle.pt_script.specs.Programs.{EndsWith, Reports, report_of, status_of};
 
@@ -71,7 +72,7 @@ pub fn answer<C: LegalHistory, R: Source, W: Sink, E: Sink, A: Allocator + Copy>
         × (R.ended reader.old ≡ false) }
     requires working { (R.failures reader.old ≡ 0) × (W.failures writer.old ≡ 0)
         × (E.failures errors.old ≡ 0) }
-    ensures ends { EndsWith (record {
+    ensures ends { EndsWith answers (record {
       reader = reading R.given R.earlier R.failures R.reads R.ended reader.old reader.new;
       writer = writing W.taken W.flushed W.failures W.rejections writer.old writer.new;
       limit = 2 ^ 40;

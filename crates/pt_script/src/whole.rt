@@ -4,11 +4,13 @@ ghost use Rattle.pt_model.specs.Starts.{nothing};
 ghost use Rattle.pt_grammar.specs.Lines.{to_come, IsBegun};
 ghost use Rattle.pt_legal.specs.Cores.{shown};
 ghost use Rattle.pt_engine.specs.Scripts.{begun, entries_between_seals};
-ghost use Rattle.pt_engine.specs.Engines.{Answers, known_by};
+ghost use Rattle.pt_engine.specs.Engines.{known_by};
+ghost use Rattle.pt_script.specs.Tellings.{AreTold, answers};
 ghost use Rattle.pt_script.specs.Texts.{writing};
 ghost use Rattle.pt_script.specs.Stops.{IsStopped, IsEnd};
 ghost use Rattle.pt_script.specs.Ends.{IsScriptText, BeginsScriptText, IsFaultOf, reading};
 
+use crate::telling::{tell_all, tell_last};
 use crate::writing::deliver;
 use pt_engine::{Engine, ScriptFault};
 use pt_io::{Sink, Source};
@@ -32,9 +34,9 @@ pub struct ScriptEnd {
     pub entries: u64,
 }
 
-// Returns an empty buffer of answers with room for those to most pieces. If that room is refused,
-// the buffer grows as needed.
-fn no_answers<A: Allocator + Copy>(alloc: A) -> Vec<u8, A>
+// Returns an empty buffer with room for the answers to most pieces. If that room is refused, the
+// buffer grows as needed.
+fn no_text<A: Allocator + Copy>(alloc: A) -> Vec<u8, A>
     ensures { result.items ≡ [] }
 {
     let mut out = Vec::new(alloc);
@@ -42,7 +44,7 @@ fn no_answers<A: Allocator + Copy>(alloc: A) -> Vec<u8, A>
     out
 }
 
-// Takes in a piece of the input, and writes the answers to the lines that end in it.
+// Takes in a piece of the input, and writes what is told of the lines that end in it.
 fn take_in<C: LegalHistory, W: Sink, A: Allocator + Copy>(
     alloc: A,
     engine: &mut Engine<C, A>,
@@ -54,14 +56,15 @@ fn take_in<C: LegalHistory, W: Sink, A: Allocator + Copy>(
     requires out { W.flushed writer.old ≡ W.taken writer.old }
     requires few { length engine.old.seen
         + length (to_come (record cutter.old { rest = cutter.old.rest ++ piece.now }) []) < 2 ^ 53 }
-    ensures ok { OnOk result (Answers (record cutter.old { rest = cutter.old.rest ++ piece.now })
-        (known_by engine.old) (W.taken writer.old) cutter.new (known_by engine.new)
+    ensures ok { OnOk result (AreTold answers
+        (record cutter.old { rest = cutter.old.rest ++ piece.now }) (known_by engine.old)
+        (W.taken writer.old) cutter.new (known_by engine.new)
         (W.taken writer.new)) }
     ensures begun { OnOk result (IsBegun cutter.new) }
     ensures wrote { OnOk result
         ((W.failures writer.new ≡ 0) × (W.rejections writer.new ≡ W.rejections writer.old)) }
     ensures out { OnOk result (W.flushed writer.new ≡ W.taken writer.new) }
-    ensures err { IfErr result (λ fault. IsStopped fault
+    ensures err { IfErr result (λ fault. IsStopped answers fault
         (record cutter.old { rest = cutter.old.rest ++ piece.now })
         (known_by engine.old) (W.taken writer.old)
         (writing W.taken W.flushed W.failures W.rejections writer.old writer.new)) }
@@ -69,13 +72,13 @@ fn take_in<C: LegalHistory, W: Sink, A: Allocator + Copy>(
     let Ok(()) = cutter.feed(piece) else {
         return Err(ScriptFault::Memory);
     };
-    let mut out = no_answers(alloc);
-    engine.answer_all(cutter, &mut out)?;
+    let mut out = no_text(alloc);
+    tell_all(engine, cutter, &mut out)?;
     deliver(writer, &out)?;
     Ok(())
 }
 
-// Answers the last line, if there is one that no newline ended.
+// Tells of the last line, if there is one that no newline ended.
 fn finish<C: LegalHistory, W: Sink, A: Allocator + Copy>(
     alloc: A,
     engine: &mut Engine<C, A>,
@@ -86,18 +89,18 @@ fn finish<C: LegalHistory, W: Sink, A: Allocator + Copy>(
     requires out { W.flushed writer.old ≡ W.taken writer.old }
     requires begun { IsBegun cutter }
     requires few { length engine.old.seen + length (to_come cutter []) < 2 ^ 53 }
-    ensures ok { IfOk result (λ end. IsEnd
+    ensures ok { IfOk result (λ end. IsEnd answers
         cutter (known_by engine.old) (W.taken writer.old) (W.taken writer.new)
         end.lines end.entries) }
     ensures wrote { OnOk result
         ((W.failures writer.new ≡ 0) × (W.rejections writer.new ≡ W.rejections writer.old)) }
     ensures out { OnOk result (W.flushed writer.new ≡ W.taken writer.new) }
-    ensures err { IfErr result (λ fault. IsStopped fault cutter (known_by engine.old)
+    ensures err { IfErr result (λ fault. IsStopped answers fault cutter (known_by engine.old)
         (W.taken writer.old)
         (writing W.taken W.flushed W.failures W.rejections writer.old writer.new)) }
 {
     let mut out = Vec::new(alloc);
-    engine.answer_last(cutter, &mut out)?;
+    tell_last(engine, cutter, &mut out)?;
     deliver(writer, &out)?;
     Ok(ScriptEnd {
         lines: engine.lines(),
@@ -118,14 +121,15 @@ fn run_within<C: LegalHistory, R: Source, W: Sink, A: Allocator + Copy>(
         × (R.ended reader.old ≡ false) }
     requires working { (R.failures reader.old ≡ 0) × (W.failures writer.old ≡ 0) }
     requires few { reads ≤ 2 ^ 40 }
-    ensures ok { IfOk result (λ end. IsScriptText
+    ensures ok { IfOk result (λ end. IsScriptText answers
         (R.given reader.new) (W.taken writer.new) end.lines end.entries) }
     ensures ended { OnOk result (R.ended reader.new ≡ true) }
     ensures out { OnOk result (W.flushed writer.new ≡ W.taken writer.new) }
     ensures working { OnOk result ((R.failures reader.new ≡ 0) × (W.failures writer.new ≡ 0)) }
     ensures calls { R.reads reader.new ≤ R.reads reader.old + reads }
-    ensures err { OnErr result (BeginsScriptText (R.given reader.new) (W.taken writer.new)) }
-    ensures why { IfErr result (λ fault. IsFaultOf (record {
+    ensures err { OnErr result
+        (BeginsScriptText answers (R.given reader.new) (W.taken writer.new)) }
+    ensures why { IfErr result (λ fault. IsFaultOf answers (record {
       reader = reading R.given R.earlier R.failures R.reads R.ended reader.old reader.new;
       writer = writing W.taken W.flushed W.failures W.rejections writer.old writer.new;
       limit = reads;
@@ -168,7 +172,7 @@ pub fn script_within<C: LegalHistory, R: Source, W: Sink, A: Allocator + Copy>(
     requires few { reads ≤ 2 ^ 40 }
 
     // All is read, and exactly the text of it is written.
-    ensures ok { IfOk result (λ end. IsScriptText
+    ensures ok { IfOk result (λ end. IsScriptText answers
         (R.given reader.new) (W.taken writer.new) end.lines end.entries) }
     ensures ended { OnOk result (R.ended reader.new ≡ true) }
     ensures out { OnOk result (W.flushed writer.new ≡ W.taken writer.new) }
@@ -176,8 +180,9 @@ pub fn script_within<C: LegalHistory, R: Source, W: Sink, A: Allocator + Copy>(
     ensures calls { R.reads reader.new ≤ R.reads reader.old + reads }
 
     // After a fault, what is written begins such a text, and the fault says what stopped it.
-    ensures err { OnErr result (BeginsScriptText (R.given reader.new) (W.taken writer.new)) }
-    ensures why { IfErr result (λ fault. IsFaultOf (record {
+    ensures err { OnErr result
+        (BeginsScriptText answers (R.given reader.new) (W.taken writer.new)) }
+    ensures why { IfErr result (λ fault. IsFaultOf answers (record {
       reader = reading R.given R.earlier R.failures R.reads R.ended reader.old reader.new;
       writer = writing W.taken W.flushed W.failures W.rejections writer.old writer.new;
       limit = reads;
@@ -201,7 +206,7 @@ pub fn script<C: LegalHistory, R: Source, W: Sink, A: Allocator + Copy>(
     requires working { (R.failures reader.old ≡ 0) × (W.failures writer.old ≡ 0) }
 
     // All is read, and exactly the text of it is written.
-    ensures ok { IfOk result (λ end. IsScriptText
+    ensures ok { IfOk result (λ end. IsScriptText answers
         (R.given reader.new) (W.taken writer.new) end.lines end.entries) }
     ensures ended { OnOk result (R.ended reader.new ≡ true) }
     ensures out { OnOk result (W.flushed writer.new ≡ W.taken writer.new) }
@@ -209,8 +214,9 @@ pub fn script<C: LegalHistory, R: Source, W: Sink, A: Allocator + Copy>(
     ensures calls { R.reads reader.new ≤ R.reads reader.old + 2 ^ 40 }
 
     // After a fault, what is written begins such a text, and the fault says what stopped it.
-    ensures err { OnErr result (BeginsScriptText (R.given reader.new) (W.taken writer.new)) }
-    ensures why { IfErr result (λ fault. IsFaultOf (record {
+    ensures err { OnErr result
+        (BeginsScriptText answers (R.given reader.new) (W.taken writer.new)) }
+    ensures why { IfErr result (λ fault. IsFaultOf answers (record {
       reader = reading R.given R.earlier R.failures R.reads R.ended reader.old reader.new;
       writer = writing W.taken W.flushed W.failures W.rejections writer.old writer.new;
       limit = 2 ^ 40;

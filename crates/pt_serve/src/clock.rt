@@ -59,7 +59,7 @@ fn look<C: LegalHistory, L: Ledger, R: Wait>(
         return;
     };
     if is_due(shared.least_deadline(rt, clock), now) {
-        let _ = shared.moment(rt, pass, clock, now);
+        let _ = shared.moment(rt, None, pass, clock, now);
     }
 }
 

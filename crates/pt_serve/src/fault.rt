@@ -9,10 +9,10 @@ pub enum ServeFault {
     /// The socket could not be made: its path is empty or exists, or the system refused it.
     #[error("bind failed")]
     Bind,
-    /// A connection could not be accepted.
+    /// A connection could not be accepted, for a reason that does not pass.
     #[error("accept failed")]
     Accept,
-    /// A thread could not be started.
+    /// The thread of the clock could not be started.
     #[error("thread failed")]
     Thread,
     /// A write or a flush of `out` failed, or a write took no byte.

@@ -10,13 +10,28 @@ use pt_legal::LegalHistory;
 use pt_session::{ClockMode, OpenGate, Shared, session};
 use std::alloc::Global;
 use std::net::TcpStream;
-use std::os::fd::OwnedFd;
+use std::os::fd::{AsRawFd, OwnedFd};
 use std::os::unix::net::{UnixListener, UnixStream};
 use std::sync::ledger::Ledger;
 use std::sync::{Mutex, Wait};
-use std::thread;
 use std::thread::{Scope, Threads};
-use std::time::Clock;
+use std::time::{Clock, Duration};
+use std::{io, thread};
+
+/// The number of milliseconds after which the next connection is accepted, if the system refused
+/// one for lack of something that others give back.  [profile]
+const PAUSE_MILLIS: u64 = 10;
+
+/// The codes of such refusals: ENOMEM, ENFILE, EMFILE, ECONNABORTED, ENOBUFS.  [XSH accept]
+const PASSING: [i32; 5] = [12, 23, 24, 103, 105];
+
+// Returns whether a connection can be accepted later.
+fn passes(error: &io::Error) -> bool {
+    match error.raw_os_error() {
+        Some(code) => PASSING.contains(&code),
+        None => false,
+    }
+}
 
 /// What the threads of a server share.
 #[derive(Drop)]
@@ -31,7 +46,7 @@ struct Server<'a, C: LegalHistory, L: Ledger, R> {
     remains: Mutex<Remains<L>>,
 }
 
-impl<'a, C: LegalHistory + Send, L: Ledger + Send + Sync, R: Threads + Wait + Sync> Server<
+impl<'a, C: LegalHistory + Send, L: Ledger + Send + Sync, R: Threads + Wait + Clock + Sync> Server<
     'a,
     C,
     L,
@@ -52,6 +67,7 @@ impl<'a, C: LegalHistory + Send, L: Ledger + Send + Sync, R: Threads + Wait + Sy
             self.shared,
             &OpenGate,
             self.mode,
+            Some(stream.as_raw_fd()),
         );
         self.connections.end();
         let Ok(end) = ended else {
@@ -67,26 +83,29 @@ impl<'a, C: LegalHistory + Send, L: Ledger + Send + Sync, R: Threads + Wait + Sy
         }
     }
 
-    // Accepts connections, and serves each in a thread of its own. After a fault no more are
-    // accepted.
+    // Accepts connections, and serves each in a thread of its own. A connection that is refused its
+    // thread is closed. The listener is closed at the end, so that nobody waits in its queue.
     fn accept_in<'s, E>(
         &'s self,
         scope: &Scope<'s, E>,
-        listener: &UnixListener,
+        listener: UnixListener,
     ) -> Result<(), HostFault> {
         let mut accepted: u64 = 0;
         for stream in listener.incoming() {
-            let Ok(stream) = stream else {
-                return Err(HostFault::Accept);
-            };
-            if scope.spawn(move || self.converse(stream)).is_err() {
-                return Err(HostFault::Thread);
+            match stream {
+                Ok(stream) => {
+                    let _ = scope.spawn(move || self.converse(stream));
+                    accepted = accepted.saturating_add(1);
+                }
+                Err(error) if passes(&error) => {
+                    thread::sleep(self.rt, Duration::from_millis(PAUSE_MILLIS));
+                }
+                Err(_) => return Err(HostFault::Accept),
             }
             if self.remains.lock(self.rt).is_short() {
                 return Err(HostFault::Memory);
             }
-            accepted = accepted.saturating_add(1);
-            if accepted == self.sessions {
+            if accepted == self.sessions && accepted > 0 {
                 break;
             }
         }
@@ -94,26 +113,19 @@ impl<'a, C: LegalHistory + Send, L: Ledger + Send + Sync, R: Threads + Wait + Sy
     }
 
     // Does what `accept_in` does, and waits for the sessions.
-    fn accept(&self, listener: &UnixListener) -> Result<(), HostFault> {
+    fn accept(&self, listener: UnixListener) -> Result<(), HostFault> {
         thread::scope(
             thread::scope_env(),
             self.rt,
             move |scope| -> Result<(), HostFault> { self.accept_in(scope, listener) },
         )
     }
-}
 
-impl<'a, C: LegalHistory + Send, L: Ledger + Send + Sync, R: Threads + Wait + Clock + Sync> Server<
-    'a,
-    C,
-    L,
-    R,
-> {
     // Does what `accept` does, while another thread hands in the clocks of the system. Returns
     // their pass.
     fn accept_by_clock(
         &self,
-        listener: &UnixListener,
+        listener: UnixListener,
         clock: ClockPass<L>,
     ) -> Result<ClockPass<L>, HostFault> {
         thread::scope(
@@ -137,7 +149,7 @@ impl<'a, C: LegalHistory + Send, L: Ledger + Send + Sync, R: Threads + Wait + Cl
 pub fn host<C: LegalHistory + Send, L: Ledger + Send + Sync, R: Threads + Wait + Clock + Sync>(
     rt: &R,
     alloc: Global,
-    listener: &UnixListener,
+    listener: UnixListener,
     shared: &Shared<C, L>,
     clock: ClockPass<L>,
     mode: ClockMode,

@@ -8,12 +8,12 @@
 //!
 //! The sockets are handled as `TcpStream`s, since a `UnixStream` has no `peek`.
 
-ghost use Rattle.std.specs.Prelude.{IfSome};
+ghost use Rattle.std.specs.Prelude.{◌≡◌, IfSome};
 ghost use Rattle.std.specs.Io.{ReadsAtMost, WritesAtMost};
 
 use pt_session::Patience;
 use std::io::{ErrorKind, Read, Write};
-use std::net::TcpStream;
+use std::net::{Shutdown, TcpStream};
 use std::sync::atomic::{AtomicU64, Ordering};
 use std::{io, thread};
 
@@ -153,6 +153,16 @@ impl<'a> PolledWriter<'a> {
     pub fn new(stream: &'a TcpStream) -> PolledWriter<'a> {
         PolledWriter { stream }
     }
+
+    // Shuts the stream down if a write failed, so that the client sees the connection's end.
+    fn note(&self, done: io::Result<usize>) -> io::Result<usize>
+        ensures { result ≡ done }
+    {
+        if done.is_err() {
+            let _ = self.stream.shutdown(Shutdown::Both);
+        }
+        done
+    }
 }
 
 impl<'a> Write for PolledWriter<'a> {
@@ -163,10 +173,11 @@ impl<'a> Write for PolledWriter<'a> {
                 Err(error) if error.kind() == ErrorKind::WouldBlock => {
                     self.stream.set_nonblocking(false)?;
                 }
-                done => return done,
+                done => return self.note(done),
             }
         }
-        self.stream.write(buf)
+        let done = self.stream.write(buf);
+        self.note(done)
     }
 
     fn flush(&mut self) -> io::Result<()> {

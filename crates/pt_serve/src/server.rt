@@ -1,13 +1,12 @@
 ghost use Rattle.std.specs.Prelude.{◌≡◌, ◌≢◌, ◌^◌, ◌-◌, ◌++◌, [], OnOk, OnErr, IfOk, IfErr};
-ghost use Rattle.pt_types.specs.Limits.{most_entries};
-ghost use Rattle.pt_model.specs.Starts.{nothing};
-ghost use Rattle.pt_legal.specs.Cores.{shown};
+ghost use Rattle.pt_legal.specs.Cores.{IsEmpty, shown};
 ghost use Rattle.pt_session.specs.Outputs.{IsBroken};
 ghost use Rattle.pt_serve.specs.Served.{IsServiceBegun, closed_line, ready_line};
 
 use crate::fault::{ServeFault, fault_of};
 use crate::host::host;
 use crate::output::{say_closed, say_ready};
+use pt_bells::Peers;
 use pt_hub::{ClockPass, Closed, Hub};
 use pt_io::Sink;
 use pt_legal::LegalHistory;
@@ -31,18 +30,20 @@ fn serve_ready<C: LegalHistory + Send, L: Ledger + Send + Sync, R: Threads + Wai
     alloc: Global,
     core: C,
     blank: Blank,
-    listener: &UnixListener,
+    listener: UnixListener,
+    peers: Peers,
     mode: ClockMode,
     sessions: u64,
 ) -> Result<Closed, ServeFault>
-    requires empty { shown (C.seen core)
-        ≡ record { start = nothing; entries = []; limit = most_entries } }
+    requires empty { IsEmpty (shown (C.seen core)) }
     requires name { (blank.name ≡ L.name) × (blank.parts ≡ L.parts) }
     requires parts { blank.parts ≡ 2 ^ 63 }
     ensures { IfErr result (λ fault. fault ≢ ServeFault.Write) }
 {
-    let (hub, clock): (Hub<C, L>, ClockPass<L>) = Hub::new(core, alloc, blank);
-    let shared = Shared::new(hub);
+    // A server without end never closes its hub, so nobody reads what receipts have seen.
+    let heap = if sessions == 0 { None } else { Some(alloc) };
+    let (hub, clock): (Hub<C, L>, ClockPass<L>) = Hub::new(core, alloc, heap, blank);
+    let shared = Shared::with_peers(hub, peers);
     match host(rt, alloc, listener, &shared, clock, mode, sessions) {
         Ok(remains) => remains.close(shared.into_hub()),
         Err(fault) => Err(fault_of(fault)),
@@ -54,9 +55,10 @@ fn serve_ready<C: LegalHistory + Send, L: Ledger + Send + Sync, R: Threads + Wai
 /// [profile]
 ///
 /// It writes `ready` once it listens, and `closed` with the number of events after the close. A
-/// connection whose session is refused is closed, and counts as one. After a fault no more
-/// connections are accepted, the server waits for the running sessions, and the history is not
-/// closed. The file at the path stays.
+/// connection whose thread or session is refused is closed, and counts as one. A connection that
+/// the system refuses for lack of descriptors or memory is accepted later. After a fault the
+/// listener is closed, the server waits for the running sessions, and the history is not closed.
+/// The file at the path stays.
 pub fn serve<C: LegalHistory + Send, W: Sink, R: Files + Net + Threads + Wait + Clock + Sync>(
     rt: &R,
     alloc: Global,
@@ -66,8 +68,7 @@ pub fn serve<C: LegalHistory + Send, W: Sink, R: Files + Net + Threads + Wait + 
     sessions: u64,
     out: &mut W,
 ) -> Result<Closed, ServeFault>
-    requires empty { shown (C.seen core)
-        ≡ record { start = nothing; entries = []; limit = most_entries } }
+    requires empty { IsEmpty (shown (C.seen core)) }
     requires output { W.failures out.old ≡ 0 }
 
     // Exactly these two lines are written, and all of it is flushed.
@@ -86,12 +87,17 @@ pub fn serve<C: LegalHistory + Send, W: Sink, R: Files + Net + Threads + Wait + 
     if path.is_empty() {
         return Err(ServeFault::Bind);
     }
+    let Ok(peers) = Peers::new(rt, alloc) else {
+        return Err(ServeFault::Bind);
+    };
     let Ok(listener) = UnixListener::bind(rt, path) else {
         return Err(ServeFault::Bind);
     };
     say_ready(out)?;
     let blank = Blank::new(SHARES);
-    let closed = serve_ready::<C, Brand, R>(rt, alloc, core, blank, &listener, mode, sessions)?;
+    let closed = serve_ready::<C, Brand, R>(
+        rt, alloc, core, blank, listener, peers, mode, sessions,
+    )?;
     say_closed(out, closed.outer)?;
     Ok(closed)
 }

@@ -1,14 +1,15 @@
 //! The program `ptserver`: it reads POSIX synchronisation calls and writes their answers, as a
-//! script or over a Unix socket.
+//! script, with or without what explains them, or over a Unix socket.
 //!
 //! The contract of `pt_script` says what a script is answered, what is reported of a fault, and
 //! which exit status follows. Its `answer` is given a core and the three standard streams. The
-//! contract of `pt_serve` says the same for a server. The words of the command line are those of
-//! `pt_command`.
+//! contract of `pt_explain` says the same for a script that is explained, and that of `pt_serve`
+//! for a server. The words of the command line are those of `pt_command`.
 #![tactic(auto)]
 
 use pt_command::{ClockWord, Task, read_task};
 use pt_core::Core;
+use pt_explain::explain;
 use pt_hub::Closed;
 use pt_io::Counted;
 use pt_script::{ENTRIES_BETWEEN_SEALS, ScriptFault, answer};
@@ -17,16 +18,32 @@ use pt_session::ClockMode;
 use std::io;
 use std::process::ExitCode;
 
+// Reports that there is no memory for a core, and returns the exit status.
+fn want_memory(rt: &HostRuntime) -> ExitCode {
+    pt_script::report(&mut Counted::new(rt.stderr()), ScriptFault::Memory);
+    ExitCode::from(pt_script::status_of(ScriptFault::Memory))
+}
+
 // Answers standard input on standard output, and reports a fault on standard error.
 fn run_script(rt: &HostRuntime) -> ExitCode {
-    let mut errors = Counted::new(rt.stderr());
     let Ok(core) = Core::with_limit(rt.alloc(), ENTRIES_BETWEEN_SEALS) else {
-        pt_script::report(&mut errors, ScriptFault::Memory);
-        return ExitCode::from(pt_script::status_of(ScriptFault::Memory));
+        return want_memory(rt);
     };
     let mut reader = Counted::new(rt.stdin());
     let mut writer = Counted::new(io::writer(rt));
+    let mut errors = Counted::new(rt.stderr());
     ExitCode::from(answer(core, rt.alloc(), &mut reader, &mut writer, &mut errors))
+}
+
+// Explains standard input on standard output, and reports a fault on standard error.
+fn run_explain(rt: &HostRuntime) -> ExitCode {
+    let Ok(core) = Core::with_limit(rt.alloc(), ENTRIES_BETWEEN_SEALS) else {
+        return want_memory(rt);
+    };
+    let mut reader = Counted::new(rt.stdin());
+    let mut writer = Counted::new(io::writer(rt));
+    let mut errors = Counted::new(rt.stderr());
+    ExitCode::from(explain(core, rt.alloc(), &mut reader, &mut writer, &mut errors))
 }
 
 fn mode_of(clock: ClockWord) -> ClockMode {
@@ -50,8 +67,9 @@ fn end_of(rt: &HostRuntime, served: Result<Closed, ServeFault>) -> ExitCode {
 fn main(rt: HostRuntime) -> ExitCode {
     match read_task(&rt) {
         Task::Script => run_script(&rt),
+        Task::Explain => run_explain(&rt),
         Task::Serve(service) => {
-            let Ok(core) = Core::new(rt.alloc()) else {
+            let Ok(core) = Core::with_limit(rt.alloc(), ENTRIES_BETWEEN_SEALS) else {
                 return end_of(&rt, Err(ServeFault::Memory));
             };
             let mode = mode_of(service.clock);

@@ -4,6 +4,7 @@ mod growth;
 mod play;
 mod rows;
 mod seals;
+mod seen;
 mod sessions;
 mod threads;
 

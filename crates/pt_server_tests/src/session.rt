@@ -1,2 +1,3 @@
 mod memory;
+mod remains;
 mod threads;

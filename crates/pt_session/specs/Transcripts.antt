@@ -138,7 +138,8 @@ IsPassOf xs (Some p) = (hellos_in xs ≡ p.priority ∷ []) × (calls_of p.recei
 
 -- the pass that a client left, without its Death
 abbrev pub pass_of : LeftView → PassView
-pass_of l = record { client = l.client; priority = l.priority; receipts = l.receipts }
+pass_of l =
+    record { client = l.client; priority = l.priority; seen = l.joined; receipts = l.receipts }
 
 -- a client left something exactly if a hello was accepted; it had that hello's priority, and its
 -- receipts are of the accepted calls  [profile]

@@ -6,9 +6,11 @@ use Rattle.pt_types.specs.declared.call.Call.{Call as Asked}
 use Rattle.pt_types.specs.declared.call.How.{How}
 use Rattle.pt_types.specs.declared.operations.LockKind.{LockKind}
 use Rattle.pt_types.specs.declared.time.Clock.{Clock}
+use Rattle.pt_types.specs.declared.operations.ObjectClass.TheVariants.{Barrier as BarrierClass}
 use Rattle.pt_types.specs.declared.operations.ObjectClass.TheVariants.{Cond as CondClass}
 use Rattle.pt_types.specs.declared.operations.ObjectClass.TheVariants.{Mutex as MutexClass}
-use Rattle.pt_types.specs.Operations.{Acquires, Awaits, class_needed, clock_of, deadline_of}
+use Rattle.pt_types.specs.Operations.{Acquires, Arrives, Awaits, class_needed, clock_of}
+use Rattle.pt_types.specs.Operations.{deadline_of}
 use Rattle.pt_types.specs.Operations.{operation}
 use Rattle.pt_types.specs.Times.{Timespec, deadline_nanos}
 use Rattle.pt_table.specs.declared.clients.ClientRow.{ClientRow}
@@ -16,7 +18,7 @@ use Rattle.pt_table.specs.declared.objects.ObjectRow.{ObjectRow}
 use Rattle.pt_model.specs.declared.entry.Entry.{Entry}
 use Rattle.pt_model.specs.declared.entry.Entry.TheVariants.{Grant, Trip}
 use Rattle.pt_model.specs.declared.waiting_call.Role.{Role}
-use Rattle.pt_model.specs.declared.waiting_call.Role.TheVariants.{ForCond}
+use Rattle.pt_model.specs.declared.waiting_call.Role.TheVariants.{ForBarrier, ForCond}
 use Rattle.pt_model.specs.declared.waiting_call.WaitingCall.{WaitingCall}
 use Rattle.pt_model.specs.Clients.{client}
 use Rattle.pt_model.specs.Forced.{service}
@@ -53,8 +55,9 @@ module _ {A : Type 0} (s : State A) where
     adds-service new a =
         subst (λ (e : Entry). Adds s e new) (sym (service-grant (past s) (called o) other)) a
 
-  -- a state that adds an entry to this one with other objects also adds it to this one
-  pub adds-over : (mid new : State A) (e : Entry) → mid ≡ record s { objects = mid.objects }
+  -- a state that adds an entry to this one with other rows also adds it to this one
+  pub adds-over : (mid new : State A) (e : Entry)
+      → mid ≡ record s { clients = mid.clients; objects = mid.objects }
       → Adds mid e new → Adds s e new
   adds-over mid new e rest a =
       let b = subst (λ (t : State A). Adds t e new) rest a in
@@ -138,5 +141,18 @@ left-awaits h c call n m found mutex object k clock deadline o asks ef em eo ek 
           (ek ∙ ap (λ f. unwrap_or f 0) em)
           ∙ ap (λ x. entered h c (meant h n CondClass) (ForCond (meant h m MutexClass)) x
           deadline) ec))));
+      unmoved = un;
+    }
+
+-- what an arrival leaves waiting
+pub left-arrives : (h : History) (c : ℕ) (call : Asked) (n : List ℕ) (found : Option ℕ)
+    (object : ℕ) (clock : Clock) (o : Open) → operation call ≡ Arrives n
+    → found ≡ find h n BarrierClass → object ≡ unwrap_or found 0 → clock ≡ clock_of call
+    → o.call ≡ entered h c object ForBarrier clock None → o.moved ≡ None → IsLeft h c call o
+left-arrives h c call n found object clock o asks ef eo ec is un =
+    record {
+      stands = ap (stood_by_operation h c (clock_of call)) asks ∙ ap (λ w. w ∷ []) (sym (is
+          ∙ (ap (λ x. entered h c x ForBarrier clock None) (eo ∙ ap (λ f. unwrap_or f 0) ef)
+          ∙ ap (λ x. entered h c (meant h n BarrierClass) ForBarrier x None) ec)));
       unmoved = un;
     }

@@ -46,10 +46,6 @@ number-is : (o : Option ℕ) (j : ℕ) → is_number o j ≡ true → o ≡ Some
 number-is None j e = absurd cc
 number-is (Some k) j e = let same : k ≡ j = grind (arith, nat_tests) in ap Some same
 
-is-number : (o : Option ℕ) (j : ℕ) → o ≡ Some j → is_number o j ≡ true
-is-number None j e = absurd cc
-is-number (Some k) j e = let same : k ≡ j = cc in grind (arith, nat_tests)
-
 -- the row that is found has the latest call at this place
 found-row : (rows : List (ClientRow Caller)) (j : ℕ) (r : StartClient)
     → find (calls_at j) (map client_start rows) ≡ Some r

@@ -2,31 +2,44 @@
 
 ghost use Rattle.pt_model.specs.Objects.{find};
 ghost use Rattle.pt_types.specs.Operations.{class_needed as class_meant};
-ghost use Rattle.pt_types.specs.declared.operations.LockKind.TheVariants.{ReadLock};
 ghost use Rattle.pt_state.specs.Requests.{IsRequest};
-ghost use Rattle.std.specs.Prelude.{IfErr, IsOk, None, OnErr, OnOk, Some, ◌≡◌, false};
+ghost use Rattle.std.specs.Prelude.{IfErr, IsOk, None, OnErr, OnOk, Some, ◌≡◌, ◌<◌, false};
 ghost use Rattle.pt_model.specs.declared.entry.Entry.TheVariants as entry;
-ghost use Rattle.pt_state.specs.Adds.{Adds, IsNearly, IsReadyFor, Stays, past};
+ghost use Rattle.pt_state.specs.Adds.{Adds, IsNearly, IsReadyFor, Stays, past, pushed};
 ghost use Rattle.pt_state.specs.Calling.{is_done};
 ghost use Rattle.pt_types.specs.declared.outcome.Outcome.TheVariants as told;
-ghost use Rattle.pt_types.specs.Operations.{Acquires, Arrives, Awaits, operation};
+ghost use Rattle.pt_types.specs.Operations.{Acquires, operation};
+ghost use Rattle.pt_model.specs.declared.waiting_call.Role.TheVariants.{ForRead};
 ghost use Rattle.pt_table.specs.ClientRows.{nth_value};
 ghost use Rattle.pt_records.specs.Callers.{open_in};
-ghost use Rattle.pt_model.specs.WaitingCall.{entered as entered_in, role_needed as role_meant};
+ghost use Rattle.pt_model.specs.WaitingCall.{entered as entered_in};
 ghost use Rattle.pt_state.specs.Reads.{AreTables};
 ghost use Rattle.pt_state.specs.Left.{IsLeft, IsNearlyLeft};
 ghost use Rattle.pt_state.specs.Outer.{asks_to_read};
 
 use crate::request::{Request, or_zero};
 use crate::state::State;
-use pt_model::Entry;
+use pt_history::History;
 use pt_model::waiting_call::{Role, WaitingCall, role_needed};
 use pt_records::calls::{open_at, stand};
 use pt_records::clients::note_call;
+use pt_records::mutex::release;
 use pt_records::{Answered, Open};
 use pt_types::operations::{LockKind, Operation, clock_of, deadline_of, operation_of};
 use pt_types::{Call, ClientId, Clock, Deadline, How, Name, ObjectId, Outcome, Refusal};
 use std::alloc::Allocator;
+
+// Pushes the entry of a call that is left waiting. A wait has two names.
+#[inline(always)]
+fn push_entry<A: Allocator + Copy>(stored: &mut History<A>, c: ClientId, call: &Call)
+    requires { 0 < stored.old.room }
+    ensures { stored.new ≡ pushed stored.old (entry.Call c call.now None) }
+{
+    match call {
+        Call::Wait(..) => stored.push_wait(c, call, None),
+        _ => stored.push_named(c, call, None),
+    }
+}
 
 impl<A: Allocator + Copy> State<A> {
     /// Pushes a call that is answered anything but 0. Such a call changes nothing else.  [XSH 2.3]
@@ -144,109 +157,84 @@ impl<A: Allocator + Copy> State<A> {
         Open { call, moved: None }
     }
 
-    /// Stores the call in the client's row as its open call, and pushes it.
+    /// Returns what a call that is left waiting leaves: its open call. This is the whole effect of
+    /// its entry, and reads the call's word for the last time.  [XSH, the call's page]
     #[inline(always)]
-    pub fn leave(&mut self, c: ClientId, call: &Call, open: Open)
-        requires { IsNearlyLeft self.old c call.now «open» }
-        ensures { Adds self.old (entry.Call c call.now None) self.new }
+    pub fn waiting(&self, c: ClientId, call: &Call, request: &Request) -> Open
+        requires ready { IsReadyFor self.now (entry.Call c call.now None) }
+        requires asks { IsRequest (past self.now) (operation call.now) request.now }
+        ensures { IsLeft (past self.now) c call.now result }
     {
-        let place = self.stored.len();
-        stand(&mut self.clients, c, open, place);
-        self.stored.push_named(c, call, None);
-    }
-
-    /// Does what `leave` does, for a wait.
-    #[inline(always)]
-    pub(crate) fn leave_wait(&mut self, c: ClientId, call: &Call, open: Open)
-        requires { IsNearlyLeft self.old c call.now «open» }
-        ensures { Adds self.old (entry.Call c call.now None) self.new }
-    {
-        let place = self.stored.len();
-        stand(&mut self.clients, c, open, place);
-        self.stored.push_wait(c, call, None);
-    }
-
-    // Changes what a call for a lock changes when it begins to wait, except its client's row: a
-    // reader gets a row in its lock. Returns ENOMEM if there is no memory for that row.
-    // [XSH pthread_mutex_lock, pthread_rwlock_rdlock, pthread_rwlock_wrlock]
-    #[inline(always)]
-    fn begin(
-        &mut self,
-        c: ClientId,
-        call: &Call,
-        lock_kind: LockKind,
-        open: &Open,
-    ) -> Result<(), Refusal>
-        requires ready { IsReadyFor self.old (entry.Call c call.now None) }
-        requires left { IsLeft (past self.old) c call.now «open».now }
-        requires role { «open».now.call.role ≡ role_meant lock_kind }
-        ensures ok { OnOk result (IsNearlyLeft self.new c call.now «open».now) }
-        ensures err { OnErr result (Stays self.old self.new) }
-        ensures rest { self.new ≡ record self.old { objects = self.new.objects } }
-        ensures refusal { IfErr result (λ r. r ≡ Refusal.Enomem) }
-        ensures enough { (lock_kind ≡ ReadLock → ⊥) → IsOk result }
-    {
-        match lock_kind {
-            LockKind::ReadLock => self.begin_reading(c, call, open),
-            LockKind::MutexLock => Ok(()),
-            LockKind::WriteLock => Ok(()),
-        }
-    }
-
-    /// Pushes a call for a lock that is left waiting. Returns ENOMEM if there is no memory for its
-    /// row in a read-write lock.
-    /// [XSH pthread_mutex_lock, pthread_rwlock_rdlock, pthread_rwlock_wrlock]
-    #[inline(always)]
-    pub fn push_acquire(
-        &mut self,
-        c: ClientId,
-        call: &Call,
-        n: &Name,
-        lock_kind: LockKind,
-        how: How,
-        object: Option<ObjectId>,
-    ) -> Result<(), Refusal>
-        requires ready { IsReadyFor self.old (entry.Call c call.now None) }
-        requires operation { operation call.now ≡ Acquires n.now lock_kind how }
-        requires found { object ≡ find (past self.old) n.now (class_meant lock_kind) }
-        ensures ok { OnOk result (Adds self.old (entry.Call c call.now None) self.new) }
-        ensures err { OnErr result (Stays self.old self.new) }
-        ensures refusal { IfErr result (λ r. r ≡ Refusal.Enomem) }
-        ensures enough { asks_to_read (operation call.now) ≡ false → IsOk result }
-    {
-        let role = role_needed(lock_kind);
-        let open = self.entered(c, or_zero(object), role, clock_of(call), deadline_of(how));
-        self.begin(c, call, lock_kind, &open)?;
-        self.leave(c, call, open);
-        Ok(())
-    }
-
-    /// Pushes a call that is left waiting: for a lock, at a condition or at a barrier. No other
-    /// call waits. Returns ENOMEM if there is no memory for its row in a read-write lock. It is not
-    /// inlined.  [XSH, the call's page]
-    #[inline(never)]
-    pub fn push_left(&mut self, c: ClientId, call: &Call, request: &Request) -> Result<(), Refusal>
-        requires ready { IsReadyFor self.old (entry.Call c call.now None) }
-        requires asks { IsRequest (past self.old) (operation call.now) request.now }
-        ensures ok { OnOk result (Adds self.old (entry.Call c call.now None) self.new) }
-        ensures err { OnErr result (Stays self.old self.new) }
-        ensures refusal { IfErr result (λ r. r ≡ Refusal.Enomem) }
-        ensures enough { asks_to_read (operation call.now) ≡ false → IsOk result }
-    {
+        let object = or_zero(request.object);
         match &operation_of(call) {
-            Operation::Acquires(n, lock_kind, how) => {
-                self.push_acquire(c, call, n, *lock_kind, *how, request.object)
+            Operation::Acquires(_, lock_kind, how) => {
+                let role = role_needed(*lock_kind);
+                self.entered(c, object, role, clock_of(call), deadline_of(*how))
             }
-            Operation::Awaits(n, m, deadline) => {
-                self.push_await(c, call, n, m, *deadline, request);
-                Ok(())
+            Operation::Awaits(_, _, deadline) => {
+                let role = Role::ForCond(or_zero(request.mutex));
+                self.entered(c, object, role, clock_of(call), *deadline)
             }
-            Operation::Arrives(n) => {
-                self.push_arrival(c, call, n, request.object);
-                Ok(())
+            Operation::Arrives(_) => {
+                self.entered(c, object, Role::ForBarrier, clock_of(call), None)
             }
             // Other calls never wait.
-            _ => Ok(()),
+            _ => unreachable!(),
         }
+    }
+
+    // Stores the call in the client's row as its open call, and pushes it.
+    #[inline(always)]
+    fn leave(&mut self, c: ClientId, call: &Call, open: Open)
+        requires { IsNearlyLeft self.old c call.now «open» }
+        ensures { Adds self.old (entry.Call c call.now None) self.new }
+    {
+        let place = self.stored.len();
+        push_entry(&mut self.stored, c, call);
+        stand(&mut self.clients, c, open, place);
+    }
+
+    // Changes what a call changes when it begins to wait, except its client's row: a reader gets a
+    // row in its lock, and a wait gives back one lock on its mutex. Returns ENOMEM if there is no
+    // memory for the row.  [XSH pthread_rwlock_rdlock, pthread_cond_wait]
+    #[inline(always)]
+    fn begin(&mut self, c: ClientId, call: &Call, open: &Open) -> Result<(), Refusal>
+        requires ready { IsReadyFor self.old (entry.Call c call.now None) }
+        requires left { IsLeft (past self.old) c call.now «open».now }
+        ensures ok { OnOk result (IsNearlyLeft self.new c call.now «open».now) }
+        ensures err { OnErr result (Stays self.old self.new) }
+        ensures rest { self.new ≡ record self.old {
+          clients = self.new.clients;
+          objects = self.new.objects;
+        } }
+        ensures refusal { IfErr result (λ r. r ≡ Refusal.Enomem) }
+        ensures enough { («open».now.call.role ≡ ForRead → ⊥) → IsOk result }
+    {
+        match open.call.role {
+            Role::ForRead => self.begin_reading(c, call, open),
+            Role::ForCond(m) => {
+                release(&mut self.clients, &mut self.objects, m, c);
+                Ok(())
+            }
+            Role::ForMutex => Ok(()),
+            Role::ForWrite => Ok(()),
+            Role::ForBarrier => Ok(()),
+        }
+    }
+
+    /// Pushes a call that is left waiting, as this open call. Returns ENOMEM if there is no memory
+    /// for its row in a read-write lock.  [XSH, the call's page]
+    #[inline(always)]
+    pub fn push_waiting(&mut self, c: ClientId, call: &Call, open: Open) -> Result<(), Refusal>
+        requires ready { IsReadyFor self.old (entry.Call c call.now None) }
+        requires left { IsLeft (past self.old) c call.now «open» }
+        ensures ok { OnOk result (Adds self.old (entry.Call c call.now None) self.new) }
+        ensures err { OnErr result (Stays self.old self.new) }
+        ensures refusal { IfErr result (λ r. r ≡ Refusal.Enomem) }
+        ensures enough { asks_to_read (operation call.now) ≡ false → IsOk result }
+    {
+        self.begin(c, call, &open)?;
+        self.leave(c, call, open);
+        Ok(())
     }
 }

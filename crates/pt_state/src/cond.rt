@@ -1,29 +1,22 @@
 //! Condition variables: waits, signals and broadcasts.
 
 ghost use Rattle.pt_types.specs.declared.operations.ObjectClass.TheVariants.{Cond as CondClass};
-ghost use Rattle.pt_types.specs.declared.operations.ObjectClass.TheVariants.{Mutex as MutexClass};
 ghost use Rattle.pt_model.specs.Clients.{client};
 ghost use Rattle.pt_model.specs.Objects.{find};
 ghost use Rattle.std.specs.Prelude.{None, Some, ◌≡◌, option_map};
 ghost use Rattle.pt_types.specs.declared.outcome.Outcome.TheVariants as told;
-ghost use Rattle.pt_types.specs.Operations.{Awaits, Broadcasts, Signals, operation};
+ghost use Rattle.pt_types.specs.Operations.{Broadcasts, Signals, operation};
 ghost use Rattle.pt_model.specs.declared.entry.Entry.TheVariants as entry;
 ghost use Rattle.pt_model.specs.Searches.{least};
 ghost use Rattle.pt_model.specs.Moves.{cond_waits, moved, precedes_by};
 ghost use Rattle.pt_state.specs.Adds.{Adds, IsReadyFor, past};
 ghost use Rattle.pt_state.specs.Serving.{called};
-ghost use Rattle.pt_model.specs.declared.waiting_call.Role.TheVariants.{ForCond};
-ghost use Rattle.pt_state.specs.Left.{IsLeft};
 
-use crate::request::{Request, or_zero};
 use crate::state::State;
 use pt_model::Cause;
-use pt_model::waiting_call::Role;
 use pt_records::Open;
-use pt_records::cond::{wait_at, wake, wake_waits};
-use pt_records::mutex::release;
-use pt_types::operations::clock_of;
-use pt_types::{Call, ClientId, Deadline, Name, ObjectId, Outcome, Priority};
+use pt_records::cond::{wake, wake_waits};
+use pt_types::{Call, ClientId, Name, ObjectId, Outcome};
 use std::alloc::Allocator;
 
 impl<A: Allocator + Copy> State<A> {
@@ -59,74 +52,5 @@ impl<A: Allocator + Copy> State<A> {
         let place = self.stored.len();
         wake_waits(&mut self.clients, q, place, Cause::Broadcasted);
         self.finish(c, call, Outcome::Done);
-    }
-
-    /// Pushes a wait. Its client gives back one lock on the mutex.  [XSH pthread_cond_wait]
-    #[inline(always)]
-    pub fn push_wait(&mut self, c: ClientId, call: &Call, m: ObjectId, open: Open)
-        requires ready { IsReadyFor self.old (entry.Call c call.now None) }
-        requires left { IsLeft (past self.old) c call.now «open» }
-        requires role { «open».call.role ≡ ForCond m }
-        ensures { Adds self.old (entry.Call c call.now None) self.new }
-    {
-        release(&mut self.clients, &mut self.objects, m, c);
-        self.leave_wait(c, call, open);
-    }
-
-    /// Pushes a wait at a condition.  [XSH pthread_cond_wait]
-    #[inline(always)]
-    pub fn push_await(
-        &mut self,
-        c: ClientId,
-        call: &Call,
-        n: &Name,
-        m: &Name,
-        deadline: Option<Deadline>,
-        request: &Request,
-    )
-        requires ready { IsReadyFor self.old (entry.Call c call.now None) }
-        requires operation { operation call.now ≡ Awaits n.now m.now deadline }
-        requires object { request.now.object ≡ find (past self.old) n.now CondClass }
-        requires mutex { request.now.mutex ≡ find (past self.old) m.now MutexClass }
-        ensures { Adds self.old (entry.Call c call.now None) self.new }
-    {
-        let mutex = or_zero(request.mutex);
-        let role = Role::ForCond(mutex);
-        let open = self.entered(c, or_zero(request.object), role, clock_of(call), deadline);
-        self.push_wait(c, call, mutex, open);
-    }
-
-    /// Pushes a wait without a deadline at a condition. Returns the priority of its client.
-    /// [XSH pthread_cond_wait]
-    #[inline(always)]
-    pub fn push_endless_wait(
-        &mut self,
-        c: ClientId,
-        call: &Call,
-        n: &Name,
-        m: &Name,
-        request: &Request,
-    ) -> Priority
-        requires ready { IsReadyFor self.old (entry.Call c call.now None) }
-        requires operation { operation call.now ≡ Awaits n.now m.now None }
-        requires object { request.now.object ≡ find (past self.old) n.now CondClass }
-        requires mutex { request.now.mutex ≡ find (past self.old) m.now MutexClass }
-        ensures adds { Adds self.old (entry.Call c call.now None) self.new }
-        ensures priority { client (past self.old) c ≡ Some result }
-    {
-        // The call is read first, while the compiler still knows which word it is.
-        let place = self.stored.len();
-        let clock = clock_of(call);
-        let mutex = or_zero(request.mutex);
-        self.stored.push_wait(c, call, None);
-        release(&mut self.clients, &mut self.objects, mutex, c);
-        wait_at(
-            &mut self.clients,
-            c,
-            place,
-            or_zero(request.object),
-            mutex,
-            clock,
-        )
     }
 }

@@ -1,7 +1,6 @@
-//! Forced entries: which of them must follow, the pushes of Grant and Expire, and what a Grant
-//! answers.
+//! Forced entries: the pushes of Grant and Expire.
 
-ghost use Rattle.std.specs.Prelude.{◌<◌, ◌≡◌, false};
+ghost use Rattle.std.specs.Prelude.{None, ◌<◌, ◌≡◌, false};
 ghost use Rattle.pt_model.specs.declared.entry.Entry.TheVariants as entry;
 ghost use Rattle.pt_model.specs.Searches.{In};
 ghost use Rattle.pt_state.specs.Adds.{Adds, IsReadyFor, past};
@@ -9,11 +8,8 @@ ghost use Rattle.pt_records.specs.Callers.{opens_of};
 ghost use Rattle.pt_state.specs.Forcing.{IsGranted};
 ghost use Rattle.pt_model.specs.declared.waiting_call.Role.TheVariants.{ForRead, ForWrite};
 ghost use Rattle.pt_model.specs.Forced.{service};
-ghost use Rattle.pt_model.specs.WaitingCall.{is_arrival};
+ghost use Rattle.pt_model.specs.WaitingCall.{is_arrival, mutex_of};
 ghost use Rattle.pt_state.specs.Serving.{called};
-ghost use Rattle.pt_state.specs.Granting.{outcome_by_role as outcome_by_role_in};
-ghost use Rattle.pt_model.specs.Grants.{grant_outcome as grant_outcome_in};
-ghost use Rattle.pt_state.specs.Reads.{AreTables};
 
 use crate::state::State;
 use pt_history::ForcedEntry;
@@ -21,18 +17,8 @@ use pt_model::Cause;
 use pt_model::waiting_call::{Role, is_wait};
 use pt_records::Open;
 use pt_records::cond::wake;
-use pt_types::{ObjectId, Outcome};
+use pt_types::Outcome;
 use std::alloc::Allocator;
-
-/// The forced entry that must follow: a call is served, a mutex is taken from its dead owner, or a
-/// call's deadline has passed.
-/// [XSH pthread_mutex_unlock, pthread_mutex_lock EOWNERDEAD, pthread_mutex_timedlock]
-#[derive(Clone, Copy)]
-pub enum Forced {
-    Serve(Open),
-    Yield(ObjectId),
-    Expire(Open),
-}
 
 impl<A: Allocator + Copy> State<A> {
     /// Pushes the Expire of a call whose deadline has passed. A wait is moved to its mutex; any
@@ -63,48 +49,22 @@ impl<A: Allocator + Copy> State<A> {
         self.stored.push_grant(found.call.place, outcome);
     }
 
-    /// Pushes the Grant of an open call that does not wait at a barrier, and gives the call what it
-    /// waits for.  [XSH pthread_mutex_unlock, pthread_rwlock_unlock]
+    /// Pushes the Grant of an open call for a read-write lock, and gives the call the lock.
+    /// [XSH pthread_rwlock_unlock]
     #[inline(always)]
     pub fn push_granted(&mut self, found: &Open)
         requires ready { IsReadyFor self.old (service (past self.old) (called found.now)) }
         requires known { In found.now (opens_of self.old.clients) }
         requires other { is_arrival (called found.now).role ≡ false }
+        requires plain { mutex_of (called found.now).role found.now.call.object ≡ None }
         ensures { Adds self.old (service (past self.old) (called found.now)) self.new }
     {
         match found.call.role {
-            Role::ForMutex => {
-                self.push_grant_mutex(found, found.call.object);
-            }
-            Role::ForCond(m) => {
-                self.push_grant_mutex(found, m);
-            }
             Role::ForRead => self.push_grant_read(found),
             Role::ForWrite => self.push_grant_write(found),
+            Role::ForMutex => unreachable!(),
+            Role::ForCond(_) => unreachable!(),
             Role::ForBarrier => unreachable!(),
         }
-    }
-
-    // Returns what a call is answered when it is granted, by its role.  [XSH, its page]
-    #[inline(always)]
-    fn outcome_by_role(&self, open: &Open) -> Outcome
-        ensures { result ≡ outcome_by_role_in self.now.objects «open».now }
-    {
-        match open.call.role {
-            Role::ForMutex => self.told_at(open.call.object, open.moved),
-            Role::ForCond(m) => self.told_at(m, open.moved),
-            _ => Outcome::Done,
-        }
-    }
-
-    /// Returns what an open call is answered when it is granted.  [XSH, the call's page]
-    #[inline(always)]
-    pub fn grant_outcome(&self, open: &Open) -> Outcome
-        requires read { AreTables self.now }
-        requires known { In «open».now (opens_of self.now.clients) }
-        ensures { result
-            ≡ grant_outcome_in (past self.now) (called «open».now) }
-    {
-        self.outcome_by_role(open)
     }
 }

@@ -20,7 +20,6 @@ ghost use Rattle.pt_model.specs.WaitingCall.{mutex_of};
 ghost use Rattle.pt_model.specs.Grants.{grant_outcome as grant_outcome_in};
 ghost use Rattle.pt_records.specs.Callers.{opens_of};
 ghost use Rattle.pt_state.specs.Serving.{called};
-ghost use Rattle.pt_state.specs.Granting.{consistency_in_row, told_at as told_at_in};
 ghost use Rattle.pt_model.specs.Objects.{find as find_in, is_robust, kind_of};
 ghost use Rattle.std.specs.Option.{option_copied};
 ghost use Rattle.pt_records.specs.LocksInRows.{mutex_in};
@@ -32,13 +31,11 @@ ghost use Rattle.pt_model.specs.Forced.{is_orphan as is_orphan_in};
 use crate::had::Had;
 use crate::state::State;
 use pt_history::ForcedEntry;
-use pt_model::waiting_call::{Move, is_expired};
 use pt_mutex::MutexObj;
 use pt_records::cond::any_returns;
 use pt_records::mutex::{acquire, lock_verdict, release, restore, yield_dead};
 use pt_records::{Object, Open};
-use pt_types::tables::lock_outcome;
-use pt_types::{Call, ClientId, Consistency, How, Name, ObjectId, Outcome, Verdict};
+use pt_types::{Call, ClientId, How, Name, ObjectId, Outcome, Verdict};
 use std::alloc::Allocator;
 
 impl<A: Allocator + Copy> State<A> {
@@ -98,19 +95,6 @@ impl<A: Allocator + Copy> State<A> {
         self.finish(c, call, Outcome::Done);
     }
 
-    /// Returns whether the object is a robust mutex without an owner.  [XSH pthread_mutex_lock]
-    #[inline(always)]
-    pub fn is_robust_free(&self, m: ObjectId) -> bool
-        requires { AreTables self.now }
-        ensures { let h = past self.now in
-            result ≡ is_robust (kind_of h m) && is_none (owner_in h m) }
-    {
-        match self.mutex_at(m) {
-            Some(mutex) => mutex.is_robust() && mutex.owner().is_none(),
-            None => false,
-        }
-    }
-
     /// Pushes the Yield of a robust mutex, which is taken from its dead owner.
     /// [XSH pthread_mutex_lock, EOWNERDEAD]
     pub fn push_yield(&mut self, m: ObjectId)
@@ -139,26 +123,6 @@ impl<A: Allocator + Copy> State<A> {
         self.take(m, found.call.client, had);
         self.grant(found, had.outcome);
         had
-    }
-
-    // Returns the consistency of the mutex with this number, or `Consistent` if the object is not a
-    // mutex.  [XSH pthread_mutex_consistent]
-    #[inline(always)]
-    fn consistency_at(&self, m: ObjectId) -> Consistency
-        ensures { result ≡ consistency_in_row (object_value self.now.objects m) }
-    {
-        match self.objects.at(m.0) {
-            Some(Object::Mutex(mutex)) => mutex.consistency(),
-            _ => Consistency::Consistent,
-        }
-    }
-
-    // Returns what a mutex answers to a granted call with this move.  [XSH pthread_mutex_lock]
-    #[inline(always)]
-    pub(crate) fn told_at(&self, m: ObjectId, moved: Option<Move>) -> Outcome
-        ensures { result ≡ told_at_in self.now.objects m moved }
-    {
-        lock_outcome(self.consistency_at(m), is_expired(moved))
     }
 
     /// Returns the mutex with this number, if the object is a mutex.

@@ -286,7 +286,7 @@ fn plays_row<L: Ledger>(
 fn is_played_in<L: Ledger>(alloc: Global, blank: Blank, row: &Row) -> bool
     requires { (blank.name ≡ L.name) × (blank.parts ≡ L.parts) × (blank.parts ≡ 2 ^ 63) }
 {
-    match open::<L, Global>(alloc, blank) {
+    match open::<L, Global>(alloc, alloc, blank) {
         Some((mut hub, mut clock)) => {
             let mut passes = Vec::new(alloc);
             let played = plays_row(&mut hub, &mut clock, &mut passes, row);

@@ -39,8 +39,8 @@ fn row_24_sealed(rt: HostRuntime) {
     assert!(rt; is_played(rt.alloc(), &ROW_24_SEALED));
 }
 
-// A history of at most 1,048,576 entries, which goes on past this number. Five entries stay
-// reserved: two for the Deaths, and three for the open lock. So the moment at place 1,048,571 is
+// A history of at most 65,536 entries, which goes on past this number. Five entries stay
+// reserved: two for the Deaths, and three for the open lock. So the moment at place 65,531 is
 // the first one for which no room is left, and the history is sealed for it. The Grant at place 4
 // is in the history before this moment, and gone after it.
 const RUNS_ON: Row = Row {
@@ -50,32 +50,32 @@ const RUNS_ON: Row = Row {
         Step::Asks(0, Word::Lock, 3),
         Step::Takes(0, 3, Outcome::Done),
         Step::Waits(1, Word::Lock, 5),
-        Step::Moments(1_048_565),
+        Step::Moments(65_525),
         Step::Answers(4, Some(0)),
         Step::Moments(1),
         Step::Answers(4, None),
-        Step::Asks(0, Word::Unlock, 1_048_572),
+        Step::Asks(0, Word::Unlock, 65_532),
         Step::Takes(1, 5, Outcome::Done),
-        Step::Takes(0, 1_048_572, Outcome::Done),
+        Step::Takes(0, 65_532, Outcome::Done),
     ],
     leaving: &[
         Leaving {
             receipts: &[
                 (2, Word::MutexInit, Outcome::Done),
                 (3, Word::Lock, Outcome::Done),
-                (1_048_572, Word::Unlock, Outcome::Done),
+                (65_532, Word::Unlock, Outcome::Done),
             ],
-            died_at: 1_048_574,
+            died_at: 65_534,
         },
         Leaving {
             receipts: &[(5, Word::Lock, Outcome::Done)],
-            died_at: 1_048_575,
+            died_at: 65_535,
         },
     ],
-    found_without_last: 1_048_571,
+    found_without_last: 65_531,
     closed: Closed {
-        outer: 1_048_574,
-        entries: 1_048_576,
+        outer: 65_534,
+        entries: 65_536,
     },
 };
 

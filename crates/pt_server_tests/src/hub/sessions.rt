@@ -66,7 +66,7 @@ fn are_moments<L: Ledger>(hub: &mut Hub<L, Global>, clock: &mut ClockPass<L>) ->
 fn are_sessions_in<L: Ledger>(alloc: Global, blank: Blank) -> bool
     requires { (blank.name ≡ L.name) × (blank.parts ≡ L.parts) × (blank.parts ≡ 2 ^ 63) }
 {
-    match open::<L, Global>(alloc, blank) {
+    match open::<L, Global>(alloc, alloc, blank) {
         Some((mut hub, mut clock)) => are_marked(&mut hub) && are_moments(&mut hub, &mut clock),
         None => false,
     }

@@ -28,7 +28,7 @@ fn asks<L: Ledger, R: Wait>(
     let Some(call) = call(word) else {
         return false;
     };
-    if shared.call(rt, pass, call).is_err() {
+    if shared.call(rt, session, pass, call).is_err() {
         return false;
     }
     match shared.wait_for_answer(rt, session, pass) {
@@ -123,7 +123,7 @@ fn two_clients_in<L: Ledger + Send + Sync, R: Threads + Wait + Sync>(
 ) -> Option<Closed>
     requires { (blank.name ≡ L.name) × (blank.parts ≡ L.parts) × (blank.parts ≡ 2 ^ 63) }
 {
-    match open::<L, Global>(alloc, blank) {
+    match open::<L, Global>(alloc, alloc, blank) {
         Some((hub, clock)) => runs(rt, alloc, pt_session::Shared::new(hub), clock),
         None => None,
     }

@@ -1,11 +1,12 @@
-//! Tests of one session over memory, on a hub of its own.
+//! Tests of sessions over memory, one after another on a hub of their own.
 
 ghost use Rattle.std.specs.Prelude.{◌≡◌, ◌^◌};
 
-use crate::cores::{Hub, open};
-use pt_hub::{ClockPass, SessionId};
+use super::remains::Remains;
+use crate::cores::{Shared, open};
+use pt_hub::SessionId;
 use pt_io::Faulty;
-use pt_session::{ClockMode, EndCause, Gate, SessionEnd, Shared, session};
+use pt_session::{ClockMode, EndCause, Gate, SessionEnd, session};
 use std::alloc::Global;
 use std::marker::Brand;
 use std::sync::Wait;
@@ -28,19 +29,44 @@ struct Case {
     mode: ClockMode,
     input: &'static str,
     shut_at: u64,
+    // The number of the reader's call that fails, or 0. Each read gives seven bytes.
+    read_fails_at: u64,
     // The number of the writer's call that fails, or 0. Each write takes one byte.
-    fails_at: u64,
+    write_fails_at: u64,
     text: &'static str,
     // The numbers of lines that are pushed, submitted and answered.
     counts: (u64, u64, u64),
     cause: EndCause,
     joins: bool,
     moments: usize,
-    // The number of events in the end, including the client's death.
+    // The number of events, including the client's death.
     events: u64,
 }
 
 const OPEN: u64 = u64::MAX;
+
+// Returns the case of a session whose gate stays open and whose devices work. Its client joins.
+fn plain(
+    input: &'static str,
+    text: &'static str,
+    counts: (u64, u64, u64),
+    cause: EndCause,
+    events: u64,
+) -> Case {
+    Case {
+        mode: ClockMode::Lines,
+        input,
+        shut_at: OPEN,
+        read_fails_at: 0,
+        write_fails_at: 0,
+        text,
+        counts,
+        cause,
+        joins: true,
+        moments: 0,
+        events,
+    }
+}
 
 fn is_as<L: Ledger>(end: &SessionEnd<Faulty, Faulty, L>, case: &Case) -> bool {
     let moments = end.clock.moments().len();
@@ -52,69 +78,60 @@ fn is_as<L: Ledger>(end: &SessionEnd<Faulty, Faulty, L>, case: &Case) -> bool {
         && text == case.text.as_bytes()
 }
 
-// Returns true if the hub closes with what a session left, and finds this number of events.
-fn closes<L: Ledger>(
-    alloc: Global,
-    hub: Hub<L, Global>,
-    clock: ClockPass<L>,
-    end: SessionEnd<Faulty, Faulty, L>,
-    events: u64,
-) -> bool {
-    let (left, own_clock) = (end.left, end.clock);
-    let mut lefts = Vec::new(alloc);
-    if let Some(left) = left {
-        let _ = lefts.push(left);
-    }
-    let mut clocks = Vec::new(alloc);
-    let _ = clocks.push(clock);
-    let _ = clocks.push(own_clock);
-    match hub.close(lefts, clocks) {
-        Ok(closed) => closed.outer == events,
-        Err(_) => false,
-    }
-}
-
+// Plays a session on a hub that others share, and adds what it leaves. Returns whether it comes out
+// as it must.
 fn is_played<L: Ledger + Send + Sync, R: Threads + Wait + Sync>(
     rt: &R,
     alloc: Global,
-    hub: Hub<L, Global>,
-    clock: ClockPass<L>,
+    shared: &Shared<L>,
     case: &Case,
+    remains: &mut Remains<L>,
 ) -> bool {
     let Ok(input) = Vec::from_slice(alloc, case.input.as_bytes()) else {
         return false;
     };
-    let reader = Faulty::new(input, 7, 0);
-    let writer = Faulty::new(Vec::new(alloc), 1, case.fails_at);
-    let shared = Shared::new(hub);
+    let reader = Faulty::new(input, 7, case.read_fails_at);
+    let writer = Faulty::new(Vec::new(alloc), 1, case.write_fails_at);
     let gate = ShutAt(case.shut_at);
-    match session(rt, alloc, reader, writer, &shared, &gate, case.mode) {
-        Ok(end) => is_as(&end, case) && closes(alloc, shared.into_hub(), clock, end, case.events),
+    match session(rt, alloc, reader, writer, shared, &gate, case.mode, None) {
+        Ok(end) => is_as(&end, case) && remains.add(end.left, end.clock),
         Err(_) => false,
     }
 }
 
-fn is_case_in<L: Ledger + Send + Sync, R: Threads + Wait + Sync>(
+// Plays sessions on a new hub, one after another. Returns whether each comes out as it must, and
+// the hub closes with what they left.
+fn are_played_in<L: Ledger + Send + Sync, R: Threads + Wait + Sync>(
     rt: &R,
     alloc: Global,
     blank: Blank,
-    case: &Case,
+    cases: &[Case],
 ) -> bool
     requires { (blank.name ≡ L.name) × (blank.parts ≡ L.parts) × (blank.parts ≡ 2 ^ 63) }
 {
-    match open::<L, Global>(alloc, blank) {
-        Some((hub, clock)) => is_played(rt, alloc, hub, clock, case),
-        None => false,
-    }
-}
-
-fn is_case<R: Threads + Wait + Sync>(rt: &R, alloc: Global, case: &Case) -> bool {
-    is_case_in::<Brand, R>(rt, alloc, Blank::new(1 << 63), case)
-}
-
-fn are_played<R: Threads + Wait + Sync>(rt: &R, alloc: Global, cases: &[Case]) -> bool {
+    let Some((hub, clock)) = open::<L, Global>(alloc, alloc, blank) else {
+        return false;
+    };
+    let shared = pt_session::Shared::new(hub);
+    let mut remains = Remains::new(alloc);
+    let mut events: u64 = 0;
+    let mut all = remains.add(None, clock);
     for case in cases {
-        if !is_case(rt, alloc, case) {
+        all = all && is_played(rt, alloc, &shared, case, &mut remains);
+        events = events.saturating_add(case.events);
+    }
+    all && remains.close(shared.into_hub()) == Some(events)
+}
+
+// Plays these sessions one after another.
+fn are_played<R: Threads + Wait + Sync>(rt: &R, alloc: Global, cases: &[Case]) -> bool {
+    are_played_in::<Brand, R>(rt, alloc, Blank::new(1 << 63), cases)
+}
+
+// Plays each of these sessions on a hub of its own.
+fn is_each_played<R: Threads + Wait + Sync>(rt: &R, alloc: Global, cases: &[Case]) -> bool {
+    for case in cases {
+        if !are_played(rt, alloc, &[*case]) {
             return false;
         }
     }
@@ -125,23 +142,19 @@ fn are_played<R: Threads + Wait + Sync>(rt: &R, alloc: Global, cases: &[Case]) -
 #[test]
 fn row_26(rt: HostRuntime) {
     let cases = [
-        Case {
-            mode: ClockMode::Lines,
-            input: "hello 5\nmutex-init m normal stalled\nlock m\nlock m\nunlock m\n",
-            shut_at: OPEN,
-            fails_at: 0,
-            text: "1 0\n2 0\n3 0\n",
-            counts: (5, 4, 3),
-            cause: EndCause::InputEnded,
-            joins: true,
-            moments: 0,
-            events: 5,
-        },
+        plain(
+            "hello 5\nmutex-init m normal stalled\nlock m\nlock m\nunlock m\n",
+            "1 0\n2 0\n3 0\n",
+            (5, 4, 3),
+            EndCause::InputEnded,
+            5,
+        ),
         Case {
             mode: ClockMode::Lines,
             input: "moment 5 0\nhello 5\nmutex-init m normal stalled\nlock m\ntimedlock m 5 0\n",
             shut_at: OPEN,
-            fails_at: 0,
+            read_fails_at: 0,
+            write_fails_at: 0,
             text: "1 0\n2 0\n3 0\n4 0\n5 ETIMEDOUT\n",
             counts: (5, 5, 5),
             cause: EndCause::InputEnded,
@@ -153,7 +166,8 @@ fn row_26(rt: HostRuntime) {
             mode: ClockMode::Lines,
             input: "",
             shut_at: OPEN,
-            fails_at: 0,
+            read_fails_at: 0,
+            write_fails_at: 0,
             text: "",
             counts: (0, 0, 0),
             cause: EndCause::InputEnded,
@@ -162,11 +176,10 @@ fn row_26(rt: HostRuntime) {
             events: 0,
         },
     ];
-    assert!(rt; are_played(&rt, rt.alloc(), &cases));
+    assert!(rt; is_each_played(&rt, rt.alloc(), &cases));
 }
 
-// A line that is not accepted is answered with the reason. A session ends when its gate is shut, or
-// when its writer fails.
+// A line that is not accepted is answered with the reason. A session ends when its gate is shut.
 #[test]
 fn refusals_and_ends(rt: HostRuntime) {
     let cases = [
@@ -174,7 +187,8 @@ fn refusals_and_ends(rt: HostRuntime) {
             mode: ClockMode::System,
             input: "lock m\nmoment 5 0\nhello 5\nhello 5\nlok m\nlock m",
             shut_at: OPEN,
-            fails_at: 0,
+            read_fails_at: 0,
+            write_fails_at: 0,
             text: "1 NOHELLO\n2 SYNTAX\n3 0\n4 NOHELLO\n5 SYNTAX\n6 EINVAL\n",
             counts: (6, 6, 6),
             cause: EndCause::InputEnded,
@@ -186,7 +200,8 @@ fn refusals_and_ends(rt: HostRuntime) {
             mode: ClockMode::Lines,
             input: "hello 5\nmoment 5 0\n",
             shut_at: 2,
-            fails_at: 0,
+            read_fails_at: 0,
+            write_fails_at: 0,
             text: "1 0\n",
             counts: (2, 1, 1),
             cause: EndCause::GateShut,
@@ -194,11 +209,49 @@ fn refusals_and_ends(rt: HostRuntime) {
             moments: 0,
             events: 2,
         },
+    ];
+    assert!(rt; is_each_played(&rt, rt.alloc(), &cases));
+}
+
+// The lines that came in whole before a failed read are answered. If the input ends there instead,
+// the begun line is answered too.
+#[test]
+fn a_failed_read_drops_the_begun_line(rt: HostRuntime) {
+    let cases = [
+        Case {
+            mode: ClockMode::Lines,
+            input: "hello 5\nlock m",
+            shut_at: OPEN,
+            read_fails_at: 3,
+            write_fails_at: 0,
+            text: "1 0\n",
+            counts: (1, 1, 1),
+            cause: EndCause::InputFailed,
+            joins: true,
+            moments: 0,
+            events: 2,
+        },
+        plain(
+            "hello 5\nlock m",
+            "1 0\n2 EINVAL\n",
+            (2, 2, 2),
+            EndCause::InputEnded,
+            3,
+        ),
+    ];
+    assert!(rt; is_each_played(&rt, rt.alloc(), &cases));
+}
+
+// The first client dies by a failed write, and the second learns of it.
+#[test]
+fn a_failed_write_is_a_death(rt: HostRuntime) {
+    let cases = [
         Case {
             mode: ClockMode::Lines,
             input: "hello 5\nmutex-init m normal robust\nlock m\n",
             shut_at: OPEN,
-            fails_at: 12,
+            read_fails_at: 0,
+            write_fails_at: 12,
             text: "1 0\n2 0\n3",
             counts: (3, 3, 2),
             cause: EndCause::WriteFailed,
@@ -206,6 +259,45 @@ fn refusals_and_ends(rt: HostRuntime) {
             moments: 0,
             events: 4,
         },
+        plain(
+            "hello 5\nlock m\n",
+            "1 0\n2 EOWNERDEAD\n",
+            (2, 2, 2),
+            EndCause::InputEnded,
+            3,
+        ),
     ];
     assert!(rt; are_played(&rt, rt.alloc(), &cases));
+}
+
+// A lock that is never granted, and the greatest number of lines that may wait behind it.
+const SIXTEEN_WAIT: &str = "hello 5\nmutex-init m normal stalled\nlock m\nlock m\n\
+    signal x\nsignal x\nsignal x\nsignal x\nsignal x\nsignal x\nsignal x\nsignal x\n\
+    signal x\nsignal x\nsignal x\nsignal x\nsignal x\nsignal x\nsignal x\nsignal x\n";
+
+// The same with one line more.
+const SEVENTEEN_WAIT: &str = "hello 5\nmutex-init m normal stalled\nlock m\nlock m\n\
+    signal x\nsignal x\nsignal x\nsignal x\nsignal x\nsignal x\nsignal x\nsignal x\n\
+    signal x\nsignal x\nsignal x\nsignal x\nsignal x\nsignal x\nsignal x\nsignal x\n\
+    signal x\n";
+
+#[test]
+fn a_line_too_many_behind_a_call_that_waits_ends_the_session(rt: HostRuntime) {
+    let cases = [
+        plain(
+            SEVENTEEN_WAIT,
+            "1 0\n2 0\n3 0\n",
+            (20, 4, 3),
+            EndCause::RingFull,
+            5,
+        ),
+        plain(
+            SIXTEEN_WAIT,
+            "1 0\n2 0\n3 0\n",
+            (20, 4, 3),
+            EndCause::InputEnded,
+            5,
+        ),
+    ];
+    assert!(rt; is_each_played(&rt, rt.alloc(), &cases));
 }

@@ -1,8 +1,9 @@
 //! What a client and a clock do under the lock.
 
-ghost use Rattle.std.specs.Prelude.{◌≡◌, ◌∷◌, ◌++◌, [], None, true, option_map, IfOk, IfErr, OnOk};
+ghost use Rattle.std.specs.Prelude.{◌≡◌, ◌∷◌, ◌++◌, [], None, true, false, option_map, IfOk, IfErr};
+ghost use Rattle.std.specs.Prelude.{OnOk};
 ghost use Rattle.std.specs.Prelude.{OnErr, IfSome, IfNone};
-ghost use Rattle.pt_types.specs.Times.{deadline_nanos};
+ghost use Rattle.pt_types.specs.Times.{deadline_nanos, is_bad_deadline};
 ghost use Rattle.pt_model.specs.declared.entry.Event.TheVariants as event;
 ghost use Rattle.pt_model.specs.Queries.{least_deadline as least_deadline_in};
 ghost use Rattle.pt_model.specs.Room.{refusal_with_seals};
@@ -10,7 +11,7 @@ ghost use Rattle.pt_legal.specs.Cores.{past};
 ghost use Rattle.pt_hub.specs.Desks.{kept, IsRefusedAs, call_refusal};
 ghost use Rattle.pt_hub.specs.Hubs.{Joins, Leaves, Sends, Takes, Ticks, answered, has_ended};
 ghost use Rattle.pt_hub.specs.Hubs.{takeable};
-ghost use Rattle.pt_hub.specs.Asking.{Asks, asked_receipts};
+ghost use Rattle.pt_hub.specs.Asking.{Asks, HasAsked};
 ghost use Rattle.pt_session.specs.Stays.{Found, Made};
 
 use crate::shared::Shared;
@@ -34,7 +35,7 @@ impl<C: LegalHistory, L: Ledger> Shared<C, L> {
             (refusal_with_seals (kept hub.desk).limit (past (kept hub.desk)) (event.Join priority))
             refusal)) }
     {
-        let mut room = self.enter(rt);
+        let mut room = self.enter_for_event(rt, Some(session));
         room.law_fits();
         let place = room.hub.len();
         match room.hub.join(priority) {
@@ -49,24 +50,27 @@ impl<C: LegalHistory, L: Ledger> Shared<C, L> {
     }
 
     /// Makes a call for a client, and adds it to the client's receipts.
-    pub fn call<R: Wait>(&self, rt: &R, pass: &mut Pass<L>, call: Call) -> Result<Sent, Refusal>
-        ensures pass { IfOk result (λ sent. pass.new ≡ record pass.old {
-          receipts = pass.old.receipts
-              ++ record { place = sent.place; call = call; answer = None } ∷ [];
-        }) }
+    pub fn call<R: Wait>(
+        &self,
+        rt: &R,
+        session: SessionId,
+        pass: &mut Pass<L>,
+        call: Call,
+    ) -> Result<Sent, Refusal>
+        ensures pass { IfOk result (λ sent. HasAsked pass.old call sent None pass.new) }
         ensures ok { IfOk result (λ sent.
             Made (λ old new. Sends old pass.old call new pass.new sent)) }
         ensures err { IfErr result (λ refusal. Found (λ hub.
             IsRefusedAs (call_refusal hub.desk pass.old.client call) refusal)) }
         ensures unchanged { OnErr result (pass.new ≡ pass.old) }
     {
-        let mut room = self.enter(rt);
+        let mut room = self.enter_for_event(rt, Some(session));
         room.law_fits();
         let place = room.hub.len();
         match room.hub.call(pass, call) {
             Ok(sent) => {
                 room.law_fits();
-                self.leave(room, place, &Some(pass.client()));
+                self.leave_asked(room, place, pass.client(), !sent.ready);
                 Ok(sent)
             }
             Err(refusal) => Err(refusal),
@@ -99,20 +103,18 @@ impl<C: LegalHistory, L: Ledger> Shared<C, L> {
     pub fn ask<R: Wait>(
         &self,
         rt: &R,
+        session: SessionId,
         pass: &mut Pass<L>,
         call: Call,
     ) -> Result<(Sent, Option<Answer>), Refusal>
-        ensures pass { IfOk result (λ r. pass.new ≡ record pass.old {
-          receipts = asked_receipts (pass.old.receipts
-              ++ record { place = r.0.place; call = call; answer = None } ∷ []) r.1;
-        }) }
+        ensures pass { IfOk result (λ r. HasAsked pass.old call r.0 r.1 pass.new) }
         ensures ok { IfOk result (λ r.
             Made (λ old new. Asks old pass.old call new pass.new r.0 r.1)) }
         ensures err { IfErr result (λ refusal. Found (λ hub.
             IsRefusedAs (call_refusal hub.desk pass.old.client call) refusal)) }
         ensures unchanged { OnErr result (pass.new ≡ pass.old) }
     {
-        let mut room = self.enter(rt);
+        let mut room = self.enter_for_event(rt, Some(session));
         room.law_fits();
         let place = room.hub.len();
         match room.hub.ask(pass, call) {
@@ -147,13 +149,11 @@ impl<C: LegalHistory, L: Ledger> Shared<C, L> {
             room.law_fits();
             if let Some(answer) = room.hub.take(pass) {
                 room.law_fits();
-                room.attendance.note_wait(pass.client(), false);
                 return Some(answer);
             }
             if room.hub.input_ended(session) {
                 return None;
             }
-            room.attendance.note_wait(pass.client(), true);
             drop(room);
             self.sleep(rt, session, rings);
         }
@@ -176,10 +176,11 @@ impl<C: LegalHistory, L: Ledger> Shared<C, L> {
         left
     }
 
-    /// Hands in a reading of a clock.
+    /// Hands in a reading of a clock, for this session, or for the server's clock.
     pub fn moment<R: Wait>(
         &self,
         rt: &R,
+        session: Option<SessionId>,
         pass: &mut ClockPass<L>,
         clock: Clock,
         moment: Moment,
@@ -193,7 +194,7 @@ impl<C: LegalHistory, L: Ledger> Shared<C, L> {
             refusal)) }
         ensures unchanged { OnErr result (pass.new ≡ pass.old) }
     {
-        let mut room = self.enter(rt);
+        let mut room = self.enter_for_event(rt, session);
         room.law_fits();
         let place = room.hub.len();
         match room.hub.moment(pass, clock, moment) {
@@ -206,11 +207,12 @@ impl<C: LegalHistory, L: Ledger> Shared<C, L> {
         }
     }
 
-    /// Returns the least deadline by this clock of the open calls that are not moved, as it was
-    /// written.
+    /// Returns the least deadline by this clock of the open calls that are not moved, as the call
+    /// gave it: with nanoseconds below 1,000,000,000.
     pub fn least_deadline<R: Wait>(&self, rt: &R, clock: Clock) -> Option<Deadline>
-        ensures { Found (λ hub. option_map deadline_nanos result
+        ensures value { Found (λ hub. option_map deadline_nanos result
             ≡ least_deadline_in (past (kept hub.desk)) clock) }
+        ensures time { IfSome result (λ deadline. is_bad_deadline deadline ≡ false) }
     {
         let room = self.enter(rt);
         room.law_fits();

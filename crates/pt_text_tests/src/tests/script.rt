@@ -260,6 +260,48 @@ fn a_refused_growth_is_answered_or_ends_the_script(rt: HostRuntime) -> Result<()
     Ok(())
 }
 
+// The script of two clients, in which the mutex is made by two lines.
+const MADE_BY_TWO_LINES: &[u8] = b"A hello 10\nB hello 20\nA mutex-init m normal stalled\n\
+    A mutex-init m normal stalled\nA lock m\nB lock m\nA unlock m\n";
+
+// What is written for it if a growth is refused at the first of them.
+const MADE_BY_THE_SECOND: &[u8] = b"A 1 0\nB 1 0\nA 2 ENOMEM\nA 3 0\nA 4 0\nA 5 0\nB 2 0\n";
+
+#[test]
+fn a_mutex_whose_growth_was_refused_is_made_by_the_next_line(rt: HostRuntime) -> Result<(), Fail> {
+    let alloc = rt.alloc();
+    let mut made: u64 = 0;
+    let refused = refuse_each(alloc, 1000, |heap| -> Result<bool, Fail> {
+        let mut reader = reader(alloc, MADE_BY_TWO_LINES, 4096, 0)?;
+        let mut writer = Faulty::new(Vec::new(alloc), 4096, 0);
+        let ended = play(heap, &mut reader, &mut writer);
+        if ended.is_ok() && writer.written() == MADE_BY_THE_SECOND {
+            made = made.saturating_add(1);
+        }
+        Ok(false)
+    })?;
+    assert!(rt; refused.is_some());
+    assert!(rt; made > 1);
+    Ok(())
+}
+
+#[test]
+fn a_read_takes_up_to_4096_bytes(rt: HostRuntime) -> Result<(), Fail> {
+    let alloc = rt.alloc();
+    for (len, is_ok) in [(4096, true), (4097, false)] {
+        let mut reader = Faulty::new(Vec::from_elem(alloc, b'x', len)?, 10_000, 0);
+        let mut writer = Faulty::new(Vec::new(alloc), 4096, 0);
+        let ended = play_within(alloc, 2, &mut reader, &mut writer);
+        assert_eq!(rt; ended.is_ok(), is_ok, "of {len} bytes");
+        assert_eq!(rt;
+            writer.written(),
+            b"? 1 LONG\n".as_slice(),
+            "of {len} bytes"
+        );
+    }
+    Ok(())
+}
+
 #[test]
 fn faults_have_texts(rt: HostRuntime) -> Result<(), Fail> {
     let alloc = rt.alloc();

@@ -15,6 +15,9 @@ push_granted-requires-clause-queued g c = c.requires.queued
 pub push_granted-requires-clause-known : goal.push_granted-requires-clause-known
 push_granted-requires-clause-known g c = c.requires.known
 
+pub push_granted-requires-clause-plain : goal.push_granted-requires-clause-plain
+push_granted-requires-clause-plain g c = c.requires.plain
+
 pub push_granted-requires-clause-other : goal.push_granted-requires-clause-other
 push_granted-requires-clause-other g c = c.requires.other
 

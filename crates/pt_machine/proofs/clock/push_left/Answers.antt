@@ -8,16 +8,16 @@ use Rattle.pt_machine.proofs.clock.push_left.Goals as goal
 pub returns-in-None : goal.returns-in-None
 returns-in-None g c =
     record {
-      ok = c.push_left.ensures.ok;
-      err = c.push_left.ensures.err;
-      reason = c.push_left.ensures.reason;
+      ok = c.push_waiting.ensures.ok;
+      err = c.push_waiting.ensures.err;
+      reason = c.push_waiting.ensures.reason;
       enough = λ small.
-          c.push_left.ensures.enough (small-unread (operation c.args.call.now) small);
-      queued = c.push_left.ensures.queued;
+          c.push_waiting.ensures.enough (small-unread (operation c.args.call.now) small);
+      queued = c.push_waiting.ensures.queued;
       timed = timed-untimed c.args.state.now c.args.timers.now c.args.c c.args.call.now
-          c.requires.ready c.requires.timed c.push_left.new.state c.push_left.result
-          (sym c.good_deadline.ensures ∙ c.in-None.is) c.push_left.ensures.ok
-          c.push_left.ensures.err;
+          c.requires.ready c.requires.timed c.push_waiting.new.state c.push_waiting.result
+          (sym c.good_deadline.ensures ∙ c.in-None.is) c.push_waiting.ensures.ok
+          c.push_waiting.ensures.err;
     }
 
 -- a call that needs no memory has no deadline that is a time, and asks for no read lock
@@ -47,11 +47,9 @@ push_timed-requires-clause-queued g c = c.requires.queued
 pub push_timed-requires-clause-timed : goal.push_timed-requires-clause-timed
 push_timed-requires-clause-timed g c = c.requires.timed
 
-pub push_left-requires-clause-ready : goal.push_left-requires-clause-ready
-push_left-requires-clause-ready g c = c.requires.ready
-
-pub push_left-requires-clause-asks : goal.push_left-requires-clause-asks
-push_left-requires-clause-asks g c = c.requires.asks
-
-pub push_left-requires-clause-queued : goal.push_left-requires-clause-queued
-push_left-requires-clause-queued g c = c.requires.queued
+pub push_waiting-requires : goal.push_waiting-requires
+push_waiting-requires g c = record {
+  ready = c.requires.ready;
+  asks = c.requires.asks;
+  queued = c.requires.queued;
+}

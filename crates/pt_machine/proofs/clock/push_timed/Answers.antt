@@ -13,14 +13,12 @@ set-requires-clause-unset g c =
 pub set-requires-clause-good : goal.set-requires-clause-good
 set-requires-clause-good g c = c.requires.good
 
-pub push_left-requires-clause-ready : goal.push_left-requires-clause-ready
-push_left-requires-clause-ready g c = c.requires.ready
-
-pub push_left-requires-clause-asks : goal.push_left-requires-clause-asks
-push_left-requires-clause-asks g c = c.requires.asks
-
-pub push_left-requires-clause-queued : goal.push_left-requires-clause-queued
-push_left-requires-clause-queued g c = c.requires.queued
+pub push_waiting-requires : goal.push_waiting-requires
+push_waiting-requires g c = record {
+  ready = c.requires.ready;
+  asks = c.requires.asks;
+  queued = c.requires.queued;
+}
 
 -- its deadline is set
 pub returns-in-Ok : goal.returns-in-Ok
@@ -28,26 +26,26 @@ returns-in-Ok g c = record {
   ok = c.in-Ok.ensures.ok;
   err = tt;
   reason = tt;
-  queued = c.push_left.ensures.queued;
+  queued = c.push_waiting.ensures.queued;
   timed = timed-left c.args.state.now c.args.timers.now c.args.c c.args.call.now c.requires.ready
       c.requires.timed c.args.deadline c.requires.deadline c.requires.good c.clock_of-clock.result
       c.clock_of-clock.ensures c.len-place.result
-      c.len-place.ensures c.set.new.self c.in_default.ensures.ok c.push_left.new.state
+      c.len-place.ensures c.set.new.self c.in_default.ensures.ok c.push_waiting.new.state
       c.in-Ok.ensures.ok;
 }
 
 -- and cancelled if the call is refused
-pub returns-in-Err-push_left : goal.returns-in-Err-push_left
-returns-in-Err-push_left g c = record {
+pub returns-in-Err-push_waiting : goal.returns-in-Err-push_waiting
+returns-in-Err-push_waiting g c = record {
   ok = tt;
-  err = c.in-Err-push_left.ensures.err;
-  reason = c.in-Err-push_left.ensures.reason;
-  queued = c.push_left.ensures.queued;
+  err = c.in-Err-push_waiting.ensures.err;
+  reason = c.in-Err-push_waiting.ensures.reason;
+  queued = c.push_waiting.ensures.queued;
   timed = timed-refused c.args.state.now c.args.timers.now c.args.c c.args.call.now c.requires.ready
       c.requires.timed c.args.deadline c.requires.deadline c.requires.good c.clock_of-clock.result
       c.clock_of-clock.ensures c.len-place.result
-      c.len-place.ensures c.set.new.self c.in_default.ensures.ok c.push_left.new.state
-      c.cancel.new.self c.in-Err-push_left.ensures.err
+      c.len-place.ensures c.set.new.self c.in_default.ensures.ok c.push_waiting.new.state
+      c.cancel.new.self c.in-Err-push_waiting.ensures.err
       (taken c.set.new.self c.cancel.new.self c.len-place.result c.clock_of-clock.result
       c.nanos.result
       (just-set c.args.timers.now c.set.new.self c.len-place.result c.clock_of-clock.result

@@ -1,16 +1,19 @@
 use Rattle.std.proofs.Common.{◌-◌, [], refl, sym, subst, arith}
 use Rattle.pt_grammar.specs.Lines.{to_come}
 use Rattle.pt_engine.specs.declared.fault.ScriptFault.TheVariants.{Write, Memory}
+use Rattle.pt_engine.specs.Engines.{known_by}
+use Rattle.pt_script.specs.Tellings.{answers}
+use Rattle.pt_script.specs.Tellings.{IsTold}
 use Rattle.pt_script.specs.Texts.{Writing}
-use Rattle.pt_engine.specs.Engines.{IsAnswered, known_by}
 use Rattle.pt_script.specs.Stops.{IsStopped}
 use Rattle.pt_script.proofs.Stops.{onto_taken, last_cut_off, told_fault}
 use Rattle.pt_script.proofs.whole.finish.Goals as goal
 
-pub returns-in_err-answer_last-clause-err : goal.returns-in_err-answer_last-clause-err
-returns-in_err-answer_last-clause-err g c =
+pub returns-in_err-tell_last-clause-err : goal.returns-in_err-tell_last-clause-err
+returns-in_err-tell_last-clause-err g c =
+    let known = known_by c.args.engine.now in
     let gives = c.from_residual.ensures in
-    let why = c.in_err-answer_last.ensures.why in
+    let why = c.in_err-tell_last.ensures.why in
     let old = g.W.Sink.taken c.args.writer.now in
     let rejections = g.W.Sink.rejections c.args.writer.now in
     let writing : Writing = record {
@@ -20,7 +23,7 @@ returns-in_err-answer_last-clause-err g c =
       rejections = rejections - rejections;
     } in
     told_fault c.from_residual.result Memory
-    (λ fault. IsStopped fault c.args.cutter (known_by c.args.engine.now) old writing)
+    (λ fault. IsStopped answers fault c.args.cutter known old writing)
     (rw why at gives.1)
     (record {
       taken = refl;
@@ -31,6 +34,7 @@ returns-in_err-answer_last-clause-err g c =
 
 pub returns-in_err-deliver-clause-err : goal.returns-in_err-deliver-clause-err
 returns-in_err-deliver-clause-err g c =
+    let known = known_by c.args.engine.now in
     let gives = c.from_residual-in_err-deliver.ensures in
     let why = c.in_err-deliver.ensures.why in
     let old = g.W.Sink.taken c.args.writer.now in
@@ -42,26 +46,27 @@ returns-in_err-deliver-clause-err g c =
           g.W.Sink.rejections c.deliver.new.writer - g.W.Sink.rejections c.args.writer.now;
     } in
     told_fault c.from_residual-in_err-deliver.result Write
-    (λ fault. IsStopped fault c.args.cutter (known_by c.args.engine.now) old writing)
+    (λ fault. IsStopped answers fault c.args.cutter known old writing)
     (rw why at gives.1)
-    (last_cut_off c.args.cutter (known_by c.args.engine.now) c.new-out.result.items
-    (known_by c.answer_last.new.self) c.answer_last.new.out.items c.deref.result.now old writing
-    c.in_ok-answer_last.ensures.ok c.new-out.ensures.items c.deref.ensures.value
+    (last_cut_off answers c.args.cutter known c.new-out.result.items
+    (known_by c.tell_last.new.engine) c.tell_last.new.out.items c.deref.result.now old writing
+    c.in_ok-tell_last.ensures.ok c.new-out.ensures.items c.deref.ensures.value
     c.in_err-deliver.ensures.err)
 
 pub returns-clause-ok : goal.returns-clause-ok
 returns-clause-ok g c =
+    let known = known_by c.args.engine.now in
     let old = g.W.Sink.taken c.args.writer.now in
     record {
-      last = known_by c.answer_last.new.self;
-      answered =
+      last = known_by c.tell_last.new.engine;
+      told =
           subst
-          (IsAnswered (known_by c.args.engine.now) (to_come c.args.cutter []) old
-          (known_by c.answer_last.new.self))
+          (IsTold answers known (to_come c.args.cutter []) old
+          (known_by c.tell_last.new.engine))
           (sym c.in_ok-deliver.ensures.ok.0)
-          (onto_taken (known_by c.args.engine.now) (to_come c.args.cutter []) c.new-out.result.items
-          (known_by c.answer_last.new.self) c.answer_last.new.out.items c.deref.result.now old
-          c.in_ok-answer_last.ensures.ok c.new-out.ensures.items c.deref.ensures.value);
+          (onto_taken answers known (to_come c.args.cutter []) c.new-out.result.items
+          (known_by c.tell_last.new.engine) c.tell_last.new.out.items c.deref.result.now old
+          c.in_ok-tell_last.ensures.ok c.new-out.ensures.items c.deref.ensures.value);
       lines = c.lines.ensures;
       history = c.entries.ensures;
     }

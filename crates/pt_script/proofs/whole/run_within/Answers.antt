@@ -1,22 +1,25 @@
 use Rattle.std.proofs.Common.{◌≡◌, ◌-◌, ◌++◌, [], true, ◌∙◌, sym, ap, subst, refl, take, length}
 use Rattle.std.proofs.Common.{inl, inr, append-nil, length-append, arith}
 use Rattle.pt_grammar.specs.Lines.{Held}
+use Rattle.pt_engine.specs.Engines.{known_by}
+use Rattle.pt_script.specs.Tellings.{answers}
+use Rattle.pt_script.specs.TellingLemmas.{answers_telling}
 use Rattle.pt_script.specs.Texts.{Writing}
 use Rattle.pt_script.specs.Ends.{BeginsScriptText, Course, IsBehind, IsFaultOf, IsReadFault}
 use Rattle.pt_script.specs.Ends.{IsScriptText}
-use Rattle.pt_engine.specs.Engines.{known_by}
 use Rattle.pt_script.specs.Stops.{IsEnd, IsStopped}
 use Rattle.pt_script.proofs.Stops.{on_ok, on_err, told_fault}
 use Rattle.pt_script.proofs.Wholes.{fed_end, behind_few, behind_fed, behind_end, begins_given}
 use Rattle.pt_script.proofs.Wholes.{stopped_begins, stopped_why, not_ended, behind_begun}
-use Rattle.pt_script.proofs.Wholes.{begun_held, has_ended, done_if, whole_answered, nothing_before}
+use Rattle.pt_script.proofs.Wholes.{begun_held, has_ended, done_if, whole_told, nothing_before}
 use Rattle.pt_script.proofs.Wholes.{never_ended}
 use Rattle.pt_script.proofs.whole.run_within.Goals as goal
 
 pub loop-init : goal.loop-init
 loop-init g c =
     record {
-      behind = behind_begun (g.R.Source.given c.args.reader.now) c.new-cutter.result
+      behind = behind_begun answers answers_telling (g.R.Source.given c.args.reader.now)
+          c.new-cutter.result
           (known_by c.args.engine.now) (g.W.Sink.taken c.args.writer.now) c.requires.fresh.0
           c.new-cutter.ensures c.requires.new c.requires.fresh.1;
       begun = begun_held c.new-cutter.result c.new-cutter.ensures;
@@ -36,12 +39,14 @@ loop-init g c =
 
 pub returns-in_default-clause-err : goal.returns-in_default-clause-err
 returns-in_default-clause-err g c =
-    begins_given (g.R.Source.given c.loop.reader) (g.R.Source.given c.read.new.self) []
-    c.loop.cutter (known_by c.loop.engine) (g.W.Sink.taken c.loop.writer) c.loop.invariant.behind
+    let known = known_by c.loop.engine in
+    begins_given answers (g.R.Source.given c.loop.reader) (g.R.Source.given c.read.new.self) []
+    c.loop.cutter known (g.W.Sink.taken c.loop.writer) c.loop.invariant.behind
     (c.in_default.ensures.bytes ∙ sym (append-nil (g.R.Source.given c.loop.reader)))
 
 pub returns-in_default-clause-why : goal.returns-in_default-clause-why
 returns-in_default-clause-why g c =
+    let known = known_by c.loop.engine in
     let course : Course = record {
       reader = record {
         given = g.R.Source.given c.read.new.self;
@@ -58,13 +63,13 @@ returns-in_default-clause-why g c =
       };
       limit = c.args.reads;
     } in
-    let fault : IsReadFault course = record {
+    let fault : IsReadFault answers course = record {
       cause = inl c.in_default.ensures.count;
       no_end =
           never_ended (g.R.Source.ended c.loop.reader) (g.R.Source.ended c.read.new.self)
           c.loop.invariant.no_end c.in_default.ensures.end;
-      answers =
-          whole_answered (g.R.Source.given c.loop.reader) c.loop.cutter (known_by c.loop.engine)
+      whole =
+          whole_told answers (g.R.Source.given c.loop.reader) c.loop.cutter known
           course.writer.taken course.reader.given course.writer.taken c.loop.invariant.behind
           c.loop.invariant.begun c.in_default.ensures.bytes refl;
       flushed = c.loop.invariant.out;
@@ -75,23 +80,26 @@ returns-in_default-clause-why g c =
 
 pub finish-requires-clause-few : goal.finish-requires-clause-few
 finish-requires-clause-few g c =
-    let few = behind_few (g.R.Source.given c.loop.reader) c.loop.cutter (known_by c.loop.engine)
+    let known = known_by c.loop.engine in
+    let few = behind_few answers answers_telling (g.R.Source.given c.loop.reader) c.loop.cutter
+    known
     (g.W.Sink.taken c.loop.writer) [] c.loop.invariant.behind in
     let all = length-append (g.R.Source.given c.loop.reader) [] in
     omega (arith, few, all)
 
 pub returns-then-n-eq0-clause-ok : goal.returns-then-n-eq0-clause-ok
 returns-then-n-eq0-clause-ok g c =
+    let known = known_by c.loop.engine in
     let bytes = g.R.Source.given c.loop.reader in
     let given = g.R.Source.given c.read.new.self in
     let text = g.W.Sink.taken c.loop.writer in
     let new = g.W.Sink.taken c.finish.new.writer in
     let same = c.in-Ok.ensures.bytes
     ∙ ap (λ n. bytes ++ take n c.read.new.buf) c.if-n-eq0.true ∙ append-nil bytes in
-    on_ok (λ end. IsEnd c.loop.cutter (known_by c.loop.engine) text new end.lines end.entries)
-    (λ end. IsScriptText given new end.lines end.entries) c.finish.result
-    (λ end done. subst (λ bs. IsScriptText bs new end.lines end.entries) (sym same)
-    (behind_end bytes c.loop.cutter (known_by c.loop.engine) text new end.lines end.entries
+    on_ok (λ end. IsEnd answers c.loop.cutter known text new end.lines end.entries)
+    (λ end. IsScriptText answers given new end.lines end.entries) c.finish.result
+    (λ end done. subst (λ bs. IsScriptText answers bs new end.lines end.entries) (sym same)
+    (behind_end answers answers_telling bytes c.loop.cutter known text new end.lines end.entries
     c.loop.invariant.behind done))
     c.finish.ensures.ok
 
@@ -104,6 +112,7 @@ returns-then-n-eq0-clause-ended g c =
 
 pub returns-then-n-eq0-clause-err : goal.returns-then-n-eq0-clause-err
 returns-then-n-eq0-clause-err g c =
+    let known = known_by c.loop.engine in
     let bytes = g.R.Source.given c.loop.reader in
     let given = g.R.Source.given c.read.new.self in
     let text = g.W.Sink.taken c.loop.writer in
@@ -115,14 +124,15 @@ returns-then-n-eq0-clause-err g c =
     } in
     let same = c.in-Ok.ensures.bytes
     ∙ ap (λ n. bytes ++ take n c.read.new.buf) c.if-n-eq0.true in
-    on_err (λ fault. IsStopped fault c.loop.cutter (known_by c.loop.engine) text writing)
-    (λ fault. BeginsScriptText given writing.taken) c.finish.result
-    (λ fault stop. stopped_begins bytes given [] c.loop.cutter c.loop.cutter
-    (known_by c.loop.engine) text writing fault c.loop.invariant.behind same refl stop)
+    on_err (λ fault. IsStopped answers fault c.loop.cutter known text writing)
+    (λ fault. BeginsScriptText answers given writing.taken) c.finish.result
+    (λ fault stop. stopped_begins answers answers_telling bytes given [] c.loop.cutter c.loop.cutter
+    known text writing fault c.loop.invariant.behind same refl stop)
     c.finish.ensures.err
 
 pub returns-then-n-eq0-clause-why : goal.returns-then-n-eq0-clause-why
 returns-then-n-eq0-clause-why g c =
+    let known = known_by c.loop.engine in
     let bytes = g.R.Source.given c.loop.reader in
     let text = g.W.Sink.taken c.loop.writer in
     let same = c.in-Ok.ensures.bytes
@@ -150,13 +160,14 @@ returns-then-n-eq0-clause-why g c =
       failures = g.W.Sink.failures c.finish.new.writer;
       rejections = g.W.Sink.rejections c.finish.new.writer - g.W.Sink.rejections c.loop.writer;
     } in
-    on_err (λ fault. IsStopped fault c.loop.cutter (known_by c.loop.engine) text writing)
-    (λ fault. IsFaultOf course fault) c.finish.result
-    (λ fault stop. stopped_why bytes [] c.loop.cutter c.loop.cutter (known_by c.loop.engine) text
+    on_err (λ fault. IsStopped answers fault c.loop.cutter known text writing)
+    (λ fault. IsFaultOf answers course fault) c.finish.result
+    (λ fault stop. stopped_why answers answers_telling bytes [] c.loop.cutter c.loop.cutter known
+    text
     course fault c.loop.invariant.behind c.loop.invariant.begun same c.in-Ok.ensures.before refl
     c.in-Ok.ensures.count
     (subst
-    (λ n. IsStopped fault c.loop.cutter (known_by c.loop.engine) text (record {
+    (λ n. IsStopped answers fault c.loop.cutter known text (record {
       taken = course.writer.taken;
       flushed = course.writer.flushed;
       failures = course.writer.failures;
@@ -167,9 +178,10 @@ returns-then-n-eq0-clause-why g c =
 
 pub take_in-requires-clause-few : goal.take_in-requires-clause-few
 take_in-requires-clause-few g c =
+    let known = known_by c.loop.engine in
     let bytes = g.R.Source.given c.loop.reader in
     let more = take c.in-Ok.n c.read.new.buf in
-    let few = behind_few bytes c.loop.cutter (known_by c.loop.engine)
+    let few = behind_few answers answers_telling bytes c.loop.cutter known
     (g.W.Sink.taken c.loop.writer) more c.loop.invariant.behind in
     let same = ap length (fed_end c.loop.cutter more) in
     let all = length-append bytes more in
@@ -179,6 +191,7 @@ take_in-requires-clause-few g c =
 
 pub returns-in_err-take_in-clause-err : goal.returns-in_err-take_in-clause-err
 returns-in_err-take_in-clause-err g c =
+    let known = known_by c.loop.engine in
     let bytes = g.R.Source.given c.loop.reader in
     let given = g.R.Source.given c.read.new.self in
     let more = take c.in-Ok.n c.read.new.buf in
@@ -190,13 +203,14 @@ returns-in_err-take_in-clause-err g c =
       rejections = g.W.Sink.rejections c.take_in.new.writer - g.W.Sink.rejections c.loop.writer;
     } in
     told_fault c.from_residual.result c.in_err-take_in.field-0.0
-    (λ fault. BeginsScriptText given writing.taken) c.from_residual.ensures.1
-    (stopped_begins bytes given more c.loop.cutter next (known_by c.loop.engine)
+    (λ fault. BeginsScriptText answers given writing.taken) c.from_residual.ensures.1
+    (stopped_begins answers answers_telling bytes given more c.loop.cutter next known
     (g.W.Sink.taken c.loop.writer) writing c.in_err-take_in.field-0.0 c.loop.invariant.behind
     c.in-Ok.ensures.bytes (fed_end c.loop.cutter more) c.in_err-take_in.ensures.err)
 
 pub returns-in_err-take_in-clause-why : goal.returns-in_err-take_in-clause-why
 returns-in_err-take_in-clause-why g c =
+    let known = known_by c.loop.engine in
     let bytes = g.R.Source.given c.loop.reader in
     let more = take c.in-Ok.n c.read.new.buf in
     let next : Held = record c.loop.cutter { rest = c.loop.cutter.rest ++ more } in
@@ -218,14 +232,14 @@ returns-in_err-take_in-clause-why g c =
       limit = c.args.reads;
     } in
     told_fault c.from_residual.result c.in_err-take_in.field-0.0
-    (λ fault. IsFaultOf course fault) c.from_residual.ensures.1
-    (stopped_why bytes more c.loop.cutter next (known_by c.loop.engine)
+    (λ fault. IsFaultOf answers course fault) c.from_residual.ensures.1
+    (stopped_why answers answers_telling bytes more c.loop.cutter next known
     (g.W.Sink.taken c.loop.writer) course c.in_err-take_in.field-0.0
     c.loop.invariant.behind c.loop.invariant.begun c.in-Ok.ensures.bytes c.in-Ok.ensures.before
     (fed_end c.loop.cutter more)
     c.in-Ok.ensures.count
     (subst
-    (λ n. IsStopped c.in_err-take_in.field-0.0 next (known_by c.loop.engine)
+    (λ n. IsStopped answers c.in_err-take_in.field-0.0 next known
     (g.W.Sink.taken c.loop.writer) (record {
       taken = course.writer.taken;
       flushed = course.writer.flushed;
@@ -236,19 +250,21 @@ returns-in_err-take_in-clause-why g c =
 
 pub loop-preserved : goal.loop-preserved
 loop-preserved g c =
+    let known = known_by c.loop.engine in
     let bytes = g.R.Source.given c.loop.reader in
     let more = take c.in-Ok.n c.read.new.buf in
     let new = g.W.Sink.taken c.take_in.new.writer in
     let longer = ap length c.in-Ok.ensures.bytes ∙ length-append bytes more in
     let bound = c.in-Ok.ensures.bound in
     let kept = c.read.auto.buf in
+    let last = known_by c.take_in.new.engine in
     record {
       behind =
-          subst (λ bs. IsBehind bs c.take_in.new.cutter (known_by c.take_in.new.engine) new)
-          (sym c.in-Ok.ensures.bytes)
-          (behind_fed bytes more c.loop.cutter (known_by c.loop.engine)
-          (g.W.Sink.taken c.loop.writer) c.take_in.new.cutter (known_by c.take_in.new.engine) new
-          c.loop.invariant.behind c.in_ok-take_in.ensures.ok);
+          subst (λ bs. IsBehind answers bs c.take_in.new.cutter last new) (sym
+          c.in-Ok.ensures.bytes)
+          (behind_fed answers answers_telling bytes more c.loop.cutter known (g.W.Sink.taken
+          c.loop.writer)
+          c.take_in.new.cutter last new c.loop.invariant.behind c.in_ok-take_in.ensures.ok);
       begun = c.in_ok-take_in.ensures.begun;
       read = c.in-Ok.ensures.count;
       wrote = c.in_ok-take_in.ensures.wrote.0;
@@ -266,12 +282,14 @@ loop-preserved g c =
 
 pub returns-clause-err : goal.returns-clause-err
 returns-clause-err g c =
-    begins_given (g.R.Source.given c.loop.reader) (g.R.Source.given c.loop.reader) []
-    c.loop.cutter (known_by c.loop.engine) (g.W.Sink.taken c.loop.writer) c.loop.invariant.behind
+    let known = known_by c.loop.engine in
+    begins_given answers (g.R.Source.given c.loop.reader) (g.R.Source.given c.loop.reader) []
+    c.loop.cutter known (g.W.Sink.taken c.loop.writer) c.loop.invariant.behind
     (sym (append-nil (g.R.Source.given c.loop.reader)))
 
 pub returns-clause-why : goal.returns-clause-why
 returns-clause-why g c =
+    let known = known_by c.loop.engine in
     let course : Course = record {
       reader = record {
         given = g.R.Source.given c.loop.reader;
@@ -288,11 +306,11 @@ returns-clause-why g c =
       };
       limit = c.args.reads;
     } in
-    let fault : IsReadFault course = record {
+    let fault : IsReadFault answers course = record {
       cause = inr (c.loop.invariant.read, omega arith, omega arith);
       no_end = c.loop.invariant.no_end;
-      answers =
-          whole_answered course.reader.given c.loop.cutter (known_by c.loop.engine)
+      whole =
+          whole_told answers course.reader.given c.loop.cutter known
           course.writer.taken
           course.reader.given course.writer.taken c.loop.invariant.behind
           c.loop.invariant.begun refl refl;

@@ -1,13 +1,14 @@
 use Rattle.std.proofs.Common.{◌≡◌, ◌+◌, ◌*◌, ◌≤◌, false, length}
 use Rattle.pt_grammar.specs.Lines.{IsBegun}
-use Rattle.pt_script.specs.Ends.{IsBehind}
 use Rattle.pt_engine.specs.Engines.{known_by}
+use Rattle.pt_script.specs.Tellings.{answers}
+use Rattle.pt_script.specs.Ends.{IsBehind}
 use Rattle.pt_script.proofs.whole.run_within.Given as goal
 
 abbrev pub invariant-loop : goal.invariant-loop
 invariant-loop g l = record {
   behind :
-      IsBehind (g.R.Source.given l.reader) l.cutter (known_by l.engine)
+      IsBehind answers (g.R.Source.given l.reader) l.cutter (known_by l.engine)
       (g.W.Sink.taken l.writer);
   begun : IsBegun l.cutter;
   read : g.R.Source.failures l.reader ≡ 0;

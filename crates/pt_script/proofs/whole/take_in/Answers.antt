@@ -1,14 +1,16 @@
 use Rattle.std.proofs.Common.{◌-◌, ◌++◌}
 use Rattle.pt_grammar.specs.Lines.{Held}
 use Rattle.pt_engine.specs.declared.fault.ScriptFault.TheVariants.{Write}
-use Rattle.pt_script.specs.Texts.{Writing}
 use Rattle.pt_engine.specs.Engines.{known_by}
+use Rattle.pt_script.specs.Tellings.{answers}
+use Rattle.pt_script.specs.Texts.{Writing}
 use Rattle.pt_script.specs.Stops.{IsStopped}
 use Rattle.pt_script.proofs.Stops.{cut_off, told_fault}
 use Rattle.pt_script.proofs.whole.take_in.Goals as goal
 
 pub returns-in_err-deliver-clause-err : goal.returns-in_err-deliver-clause-err
 returns-in_err-deliver-clause-err g c =
+    let known = known_by c.args.engine.now in
     let gives = c.from_residual-in_err-deliver.ensures in
     let why = c.in_err-deliver.ensures.why in
     let held : Held =
@@ -22,8 +24,8 @@ returns-in_err-deliver-clause-err g c =
           g.W.Sink.rejections c.deliver.new.writer - g.W.Sink.rejections c.args.writer.now;
     } in
     told_fault c.from_residual-in_err-deliver.result Write
-    (λ fault. IsStopped fault held (known_by c.args.engine.now) old writing) (rw why at gives.1)
-    (cut_off held c.feed.new.self (known_by c.args.engine.now) c.no_answers-out.result.items
-    c.answer_all.new.cutter (known_by c.answer_all.new.self) c.answer_all.new.out.items
-    c.deref.result.now old writing c.in_ok-answer_all.ensures.ok c.in-Ok.ensures.ok
-    c.no_answers-out.ensures c.deref.ensures.value c.in_err-deliver.ensures.err)
+    (λ fault. IsStopped answers fault held known old writing) (rw why at gives.1)
+    (cut_off answers held c.feed.new.self known
+    c.no_text-out.result.items c.tell_all.new.cutter (known_by c.tell_all.new.engine)
+    c.tell_all.new.out.items c.deref.result.now old writing c.in_ok-tell_all.ensures.ok
+    c.in-Ok.ensures.ok c.no_text-out.ensures c.deref.ensures.value c.in_err-deliver.ensures.err)

@@ -1,66 +1,23 @@
-use Rattle.std.proofs.Common.{◌≡◌, ◌+◌, Some, ap, refl, subst, arith}
+use Rattle.std.proofs.Common.{Some, refl, arith}
 use Rattle.pt_model.specs.declared.entry.Entry.TheVariants.{Grant as GrantEntry}
-use Rattle.pt_model.specs.StartRows.{rows_of}
-use Rattle.pt_history.specs.Records.{Shows}
-use Rattle.pt_history.specs.Stored.{Stored, IsCounted, entries_of}
 use Rattle.pt_history.proofs.Growing.{shows-alone}
-use Rattle.pt_history.proofs.Kept.{counted-more, entries-more, recorded-more, seen-more}
-use Rattle.pt_history.proofs.Pushed.{memory-left, room-left, within-more, some-room, some-memory}
-use Rattle.pt_history.proofs.Seen.{entries-left}
+use Rattle.pt_history.proofs.Pushed.{can-append, holds-appended, seen-appended}
 use Rattle.pt_history.proofs.stored.History.push_grant.Goals as goal
+
+pub append-requires : goal.append-requires
+append-requires g c =
+    can-append c.self.inside c.args.self.now c.self.view_is c.requires c.self.invariant
 
 pub invariant_of-self : goal.invariant_of-self
 invariant_of-self g c =
-    let i = c.self.inside in
-    let e = GrantEntry c.args.place c.args.outcome in
-    let room : i.room ≡ c.args.self.now.room = ap (λ (s : Stored). s.room) c.self.view_is in
-    let left = room-left i.room c.args.self.now.room room c.requires in
-    let some = memory-left i.room c.args.self.now.room i.memory room c.requires
-    c.self.invariant.0.enough in
-    let more = c.push_reserved.ensures.items in
-    let none : i.outer + 0 ≡ i.outer = omega arith in
-    let shows : Shows i.base e i.records i.records c.in-Some.compact =
-    shows-alone i.base e i.records (Some c.in-Some.compact) c.in-Some.ensures in
-    let all = entries-more i.start.at _ i.records i.records i.entries.items
-    c.push_reserved.new.self.items _ e i.memory c.self.invariant.3 more shows
-    c.self.invariant.2 in (
-      within-more _ _ _ _ _ _ _ _ c.self.invariant.0 left c.push_reserved.ensures.len
-          c.push_reserved.ensures.capacity,
-      subst (IsCounted (rows_of i.start)
-          (entries_of i.start.at i.records c.push_reserved.new.self.items)) none
-          (counted-more (rows_of i.start) i.start.at i.records i.records i.entries.items
-          c.push_reserved.new.self.items e i.outer 0 all refl c.self.invariant.1),
-      recorded-more _ i.records i.records i.entries.items c.push_reserved.new.self.items _ e
-          i.memory more some shows c.self.invariant.2,
-      c.self.invariant.3,
-    )
+    holds-appended c.self.inside c.args.self.now c.self.view_is c.requires c.self.invariant
+    c.self.inside.records c.append.new.entries _ (GrantEntry c.args.place c.args.outcome)
+    _ _ c.append.ensures (shows-alone c.self.inside.base (GrantEntry c.args.place c.args.outcome)
+    c.self.inside.records (Some c.in-Some.compact) c.in-Some.ensures) _ 0 (omega arith) refl
 
 pub returns : goal.returns
 returns g c =
-    let i = c.self.inside in
-    let e = GrantEntry c.args.place c.args.outcome in
-    let shows : Shows i.base e i.records i.records c.in-Some.compact =
-    shows-alone i.base e i.records (Some c.in-Some.compact) c.in-Some.ensures in
-    let all = entries-more i.start.at _ i.records i.records i.entries.items
-    c.push_reserved.new.self.items _ e i.memory c.self.invariant.3
-    c.push_reserved.ensures.items shows c.self.invariant.2 in
-    seen-more c.args.self.now (rows_of i.start) (entries_of i.start.at i.records i.entries.items)
-    (entries_of i.start.at i.records c.push_reserved.new.self.items)
-    i.limit i.room e all c.self.view_is
-
-pub overflow_sub-self : goal.overflow_sub-self
-overflow_sub-self g c =
-    some-room c.self.inside.room c.args.self.now.room (ap (λ (s : Stored). s.room) c.self.view_is)
-    c.requires
-
-pub overflow_sub-self-2 : goal.overflow_sub-self-2
-overflow_sub-self-2 g c =
-    some-memory c.self.inside.room c.args.self.now.room c.self.inside.memory
-    (ap (λ (s : Stored). s.room) c.self.view_is) c.requires c.self.invariant.0.enough
-
-pub push_reserved-requires : goal.push_reserved-requires
-push_reserved-requires g c =
-    let i = c.self.inside in
-    entries-left i.start.at i.entries.len i.room i.memory i.limit i.entries.cap
-    c.args.self.now.room c.self.invariant.0 (ap (λ (s : Stored). s.room) c.self.view_is)
-    c.requires
+    seen-appended c.self.inside c.args.self.now c.self.view_is c.requires c.self.invariant
+    c.self.inside.records c.append.new.entries _ (GrantEntry c.args.place c.args.outcome)
+    _ _ c.append.ensures (shows-alone c.self.inside.base (GrantEntry c.args.place c.args.outcome)
+    c.self.inside.records (Some c.in-Some.compact) c.in-Some.ensures)

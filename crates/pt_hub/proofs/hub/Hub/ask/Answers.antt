@@ -1,10 +1,11 @@
-use Rattle.std.proofs.Common.{◌≡◌, List, None, Option, Some, refl, sym, ap, ◌∙◌, subst}
+use Rattle.std.proofs.Common.{◌≡◌, List, None, Option, Some, arith, refl, sym, ap, ◌∙◌, subst}
 use Rattle.std.specs.Prelude.{IsSome}
 use Rattle.pt_model.specs.Records.{Told}
 use Rattle.pt_model.specs.Queries.{told_if}
 use Rattle.pt_hub.specs.Desks.{next_answer}
 use Rattle.pt_hub.specs.Hubs.{HubView, Sends, answered, takeable_if}
-use Rattle.pt_hub.specs.Passes.{PassView}
+use Rattle.pt_hub.specs.Passes.{AreReceipts, PassView}
+use Rattle.pt_hub.proofs.ReceiptOrder.{receipts-answered}
 use Rattle.pt_hub.specs.declared.pass.Receipt.{Receipt}
 use Rattle.pt_hub.proofs.HubEvents.{sends_and_takes}
 use Rattle.pt_hub.proofs.HubLemmas.{hub-took}
@@ -23,6 +24,7 @@ returns-in-Ok-default-Some-clause-ok g c =
     record {
       client = c.pass-2.inside.client;
       priority = c.pass-2.inside.priority;
+      seen = c.pass-2.inside.seen;
       receipts = c.pass-2.inside.receipts.items;
     } in
     let sends : Sends c.args.self.now c.args.pass.now c.args.call between pending
@@ -66,13 +68,24 @@ returns-in-Ok-default-None-clause-ok g c =
 pub returns-in-Ok-default-Some-clause-pass : goal.returns-in-Ok-default-Some-clause-pass
 returns-in-Ok-default-Some-clause-pass g c =
     let o = c.in-Ok-default-Some.outcome in
-    ap (λ (rs : List Receipt). record {
-      client = c.pass-2.inside.client;
-      priority = c.pass-2.inside.priority;
-      receipts = rs;
-    }) c.answer.ensures.items
-    ∙ ap (λ (p : PassView). record p { receipts = answered p.receipts o })
-    (c.pass-2.view_is ∙ c.in-Ok-default-Some.ensures.ok.its_pass)
+    record {
+      seen = c.in-Ok-default-Some.ensures.ok.seen;
+      its_pass = ap (λ (rs : List Receipt). record {
+        client = c.pass-2.inside.client;
+        priority = c.pass-2.inside.priority;
+        seen = c.pass-2.inside.seen;
+        receipts = rs;
+      }) c.answer.ensures.items
+          ∙ ap (λ (p : PassView). record p { receipts = answered p.receipts o })
+          (c.pass-2.view_is ∙ c.in-Ok-default-Some.ensures.ok.its_pass);
+    }
+
+pub returns-in-Ok-default-None-clause-pass : goal.returns-in-Ok-default-None-clause-pass
+returns-in-Ok-default-None-clause-pass g c =
+    record {
+      seen = c.in-Ok-default-None.ensures.ok.seen;
+      its_pass = c.in-Ok-default-None.ensures.ok.its_pass;
+    }
 
 pub invariant_of-self : goal.invariant_of-self
 invariant_of-self g c =
@@ -93,3 +106,12 @@ take-requires g c =
     subst (λ (h : HubView). IsSome (next_answer h.desk c.pass.inside.client)) (sym c.self.view_is)
     (subst (λ (p : PassView). IsSome (next_answer c.send.new.self.desk p.client))
     (sym c.pass.view_is) (subst (λ (o : Option Told). IsSome o) (sym its) refl))
+
+pub invariant_of-pass : goal.invariant_of-pass
+invariant_of-pass g c = (
+  c.pass-2.invariant.0,
+  omega (arith, c.answer.ensures.len, c.pass-2.invariant.1),
+  subst (λ (rs : List Receipt). AreReceipts c.pass-2.inside.client rs) (sym c.answer.ensures.items)
+      (receipts-answered c.pass-2.inside.client _ _ c.pass-2.invariant.2),
+  c.pass-2.invariant.3,
+)

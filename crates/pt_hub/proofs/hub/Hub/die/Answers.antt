@@ -1,13 +1,16 @@
-use Rattle.std.proofs.Common.{◌≡◌, ℕ, arith, refl, sym, ap, ◌∙◌}
+use Rattle.std.proofs.Common.{◌≡◌, ◌<◌, ℕ, List, Option, IfSome, arith, refl, sym, ap, ◌∙◌, subst}
+use Rattle.pt_cells.specs.Cells.{SeenView}
 use Rattle.std.proofs.lemmas.Bool.{false≢true}
 use Rattle.pt_model.specs.Clients.{is_alive}
 use Rattle.pt_legal.specs.Cores.{past}
+use Rattle.pt_hub.specs.declared.pass.Receipt.{Receipt}
 use Rattle.pt_hub.specs.Desks.{Desk as Seen, kept, one_if}
 use Rattle.pt_hub.specs.Hubs.{HubView, next_place}
-use Rattle.pt_hub.specs.Passes.{LeftView}
+use Rattle.pt_hub.specs.Passes.{LeftView, last_place}
 use Rattle.pt_hub.proofs.HubEvents.{dies}
 use Rattle.pt_hub.proofs.HubLemmas.{hub-died, hub-kept}
 use Rattle.pt_hub.proofs.KnownRefusals.{death-lives}
+use Rattle.pt_hub.proofs.OwnCalls.{own-death}
 use Rattle.pt_hub.proofs.hub.Hub.die.Goals as goal
 use Rattle.pt_hub.proofs.hub.Hub.die.Goals.{in-Some, in-None}
 
@@ -46,7 +49,7 @@ returns-clause-alive g c =
     elim c.match-die.branch [
       | in-Some w ↦ rw w.self-is (λ lives.
           dies old c.pass.inside.client c.die.new.self w.count.new.self.total w.in-Some.field-0
-          w.in-Some.ensures.some (w.in-Some.ensures.account refl))
+          w.in-Some.ensures.some (w.in-Some.ensures.account refl) (w.in-Some.ensures.cells refl))
       | in-None w ↦ λ lives. absurd (false≢true (sym w.in-None.ensures.none.0 ∙ lives))
     ]
 
@@ -70,19 +73,22 @@ returns-clause-left g c =
     let left : ℕ → ℕ → LeftView = λ (n m : ℕ). record {
       client = c.pass.inside.client;
       priority = c.pass.inside.priority;
+      joined = c.pass.inside.seen;
       receipts = c.pass.inside.receipts.items;
       died_at = n;
+      seen = c.match-die.deaths.1;
       deaths = m;
     } in
-    let many : c.match-die.deaths
+    let count : ℕ × Option SeenView → ℕ = λ p. p.0 in
+    let many : c.match-die.deaths.0
     ≡ one_if (is_alive (past (kept c.self.inside.desk)) c.pass.inside.client) =
     elim c.match-die.branch [
-      | in-Some w ↦ w.deaths-is ∙ sym (ap one_if (death-lives (kept c.self.inside.desk)
+      | in-Some w ↦ ap count w.deaths-is ∙ sym (ap one_if (death-lives (kept c.self.inside.desk)
           c.pass.inside.client w.in-Some.ensures.some.writes.accepted))
-      | in-None w ↦ w.deaths-is ∙ sym (ap one_if w.in-None.ensures.none.0)
+      | in-None w ↦ ap count w.deaths-is ∙ sym (ap one_if w.in-None.ensures.none.0)
     ] in
     rw (← c.self.view_is, ← c.pass.view_is)
-    (ap (λ n. left n c.match-die.deaths) c.len-died_at.ensures.value
+    (ap (λ n. left n c.match-die.deaths.0) c.len-died_at.ensures.value
     ∙ ap (left (next_place c.self.inside.desk)) many)
 
 pub invariant_of-self-in-None : goal.invariant_of-self-in-None
@@ -95,3 +101,36 @@ invariant_of-self-in-None g c =
       booked = c.self.inside.tally.total;
     } in
     hub-kept old c.die.new.self c.self.inside.tally c.self.invariant c.in-None.ensures.none.1
+
+-- what the client leaves has seen its Death, if anything, above its calls
+pub invariant_of-result : goal.invariant_of-result
+invariant_of-result g c =
+    elim c.match-die.branch [
+      | in-Some w ↦ rw (w.share-is, w.deaths-is) (
+        w.count.ensures.parts ∙ c.pass.invariant.0,
+        omega arith,
+        omega (arith, w.count.ensures.amount, c.pass.invariant.1),
+        c.pass.invariant.2,
+        c.pass.invariant.3,
+        record {
+          own = own-death (kept c.self.inside.desk) (kept c.die.new.self) c.die.new.self.core
+              w.seen_after.result w.in-Some.field-0 c.pass.inside.client c.len-died_at.result
+              w.in-Some.ensures.some.writes c.len-died_at.ensures.value
+              w.seen_after.ensures.there w.seen_after.ensures.entry;
+          last = subst (λ (n : ℕ). IfSome w.seen_after.result
+              (λ s. last_place n c.pass.inside.receipts.items < c.len-died_at.result))
+              c.client.view_is
+              (subst (λ (rs : List Receipt). IfSome w.seen_after.result
+              (λ s. last_place c.client.inside.0 rs < c.len-died_at.result))
+              w.as_slice.ensures.value w.seen_after.ensures.later);
+        },
+      )
+      | in-None w ↦ rw (w.share-is, w.deaths-is) (
+        c.pass.invariant.0,
+        omega arith,
+        omega (arith, c.pass.invariant.1),
+        c.pass.invariant.2,
+        c.pass.invariant.3,
+        record { own = tt; last = tt },
+      )
+    ]

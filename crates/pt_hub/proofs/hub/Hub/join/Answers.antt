@@ -1,10 +1,13 @@
-use Rattle.std.proofs.Common.{arith, refl, ap, ◌∙◌}
+use Rattle.std.proofs.Common.{arith, refl, sym, ap, ◌∙◌, subst, List}
 use Rattle.pt_model.specs.declared.entry.Event.TheVariants as event
-use Rattle.pt_hub.specs.Desks.{Desk as Seen}
+use Rattle.pt_hub.specs.declared.pass.Receipt.{Receipt}
+use Rattle.pt_hub.specs.Desks.{Desk as Seen, kept}
 use Rattle.pt_hub.specs.Hubs.{HubView}
+use Rattle.pt_hub.specs.Passes.{AreReceipts}
 use Rattle.pt_hub.proofs.HubEvents.{joins}
 use Rattle.pt_hub.proofs.HubLemmas.{hub-kept, hub-more}
 use Rattle.pt_hub.proofs.KnownRefusals.{refused-alike}
+use Rattle.pt_hub.proofs.OwnCalls.{own-join}
 use Rattle.pt_hub.proofs.hub.Hub.join.Goals as goal
 
 pub invariant_of-self : goal.invariant_of-self
@@ -42,7 +45,8 @@ returns-in-Ok-clause-ok g c =
     } in
     rw (← c.self.view_is)
     (joins old c.args.priority c.join.new.self c.count.new.self.total c.in-Ok.field-0
-    c.in-Ok.ensures.ok c.in-Ok.ensures.account c.len-place.result c.len-place.ensures.value
+    c.in-Ok.ensures.ok c.in-Ok.ensures.account c.in-Ok.ensures.cells c.len-place.result
+    c.len-place.ensures.value c.seen-seen.result c.seen-seen.ensures.there
     c.new.result.items c.new.ensures.items)
 
 pub returns-in-Err-clause-err : goal.returns-in-Err-clause-err
@@ -69,3 +73,15 @@ invariant_of-self-in-Err g c =
       booked = c.self.inside.tally.total;
     } in
     hub-kept old c.join.new.self c.self.inside.tally c.self.invariant c.in-Err.ensures.unchanged
+
+-- the new client has seen its Join, if anything
+pub invariant_of-result : goal.invariant_of-result
+invariant_of-result g c = (
+  c.count.ensures.parts ∙ c.part-share.ensures.part,
+  omega (arith, c.count.ensures.amount, c.part-share.ensures.amount, c.new.ensures.len),
+  subst (λ (rs : List Receipt). AreReceipts c.len-place.result rs) (sym c.new.ensures.items)
+      (record { each = tt; rises = tt }),
+  own-join (kept c.self.inside.desk) (kept c.join.new.self) c.join.new.self.core c.seen-seen.result
+      c.in-Ok.field-0 c.args.priority c.len-place.result c.in-Ok.ensures.ok
+      c.len-place.ensures.value c.seen-seen.ensures.there c.seen-seen.ensures.entry,
+)

@@ -1,16 +1,19 @@
-use Rattle.std.proofs.Common.{◌≡◌, List, Option, ◌++◌, ◌∷◌, [], None, arith, refl}
+use Rattle.std.proofs.Common.{◌≡◌, ◌<◌, List, Option, ◌++◌, ◌∷◌, [], None, arith, refl}
 use Rattle.std.proofs.Common.{sym, ap, ◌∙◌, subst}
 use Rattle.pt_types.specs.declared.call.Call.{Call as Asked}
 use Rattle.pt_types.specs.declared.outcome.Refusal.{Refusal}
 use Rattle.pt_model.specs.Queries.{told_if}
-use Rattle.pt_hub.specs.Desks.{Desk as Seen, IsRefusedAs, next_answer}
-use Rattle.pt_hub.specs.Passes.{PassView}
+use Rattle.pt_hub.specs.Desks.{Desk as Seen, IsRefusedAs, kept, next_answer}
+use Rattle.pt_model.specs.declared.entry.Event.TheVariants as event
+use Rattle.pt_hub.specs.Passes.{PassView, AreReceipts, IsOwn, IsReceiptOf, last_place}
+use Rattle.pt_hub.proofs.OwnCalls.{own-call}
+use Rattle.pt_hub.proofs.ReceiptOrder.{receipts-push}
 use Rattle.pt_hub.specs.Hubs.{HubView, Sends}
 use Rattle.pt_hub.specs.declared.pass.Receipt.{Receipt}
 use Rattle.pt_hub.specs.declared.pass.Sent.{Sent}
 use Rattle.pt_hub.proofs.HubEvents.{sends}
 use Rattle.pt_hub.proofs.HubLemmas.{countable, has_part, hub-kept, hub-more}
-use Rattle.pt_hub.proofs.KnownRefusals.{call-refused-alike, made}
+use Rattle.pt_hub.proofs.KnownRefusals.{call-refused-alike}
 use Rattle.pt_hub.proofs.SeenLemmas.{known-or}
 use Rattle.pt_hub.proofs.hub.Hub.send.Goals as goal
 
@@ -50,6 +53,7 @@ returns-in-Ok-clause-ok g c =
     record {
       client = c.pass.inside.client;
       priority = c.pass.inside.priority;
+      seen = c.pass.inside.seen;
       receipts = c.pass.inside.receipts.items;
     } in
     let new : HubView = record old { desk = c.call.new.self; booked = c.count.new.self.total } in
@@ -59,21 +63,21 @@ returns-in-Ok-clause-ok g c =
     subst (λ (h : HubView). Sends h c.args.pass.now c.args.call new after made) c.self.view_is
     (subst (λ (p : PassView). Sends old p c.args.call new after made) c.pass.view_is
     (sends old before c.args.call c.call.new.self c.count.new.self.total c.in-Ok.applied
-    c.in-Ok.ensures.ok c.in-Ok.ensures.first c.in-Ok.ensures.account c.len-place.result
+    c.in-Ok.ensures.ok c.in-Ok.ensures.first c.in-Ok.ensures.account c.in-Ok.ensures.cells
+    c.len-place.result
     c.len-place.ensures.value c.is_some-ready.result c.is_some-ready.ensures
-    c.reserve.new.self.items c.reserve.ensures.items c.push_reserved.new.self.items
+    c.seen-seen.result c.seen-seen.ensures.there
+    c.has_room.new.receipts.items c.has_room.ensures.items c.push_reserved.new.self.items
     (c.push_reserved.ensures.items
-    ∙ ap (λ (x : Asked). c.reserve.new.self.items
-    ++ record { place = c.len-place.result; call = x; answer = None } ∷ [])
+    ∙ ap (λ (x : Asked). c.has_room.new.receipts.items
+    ++ record { place = c.len-place.result; call = x; answer = None; seen = c.seen-seen.result } ∷ [])
     c.in-Ok.ensures.back)))
 
 pub push_reserved-requires : goal.push_reserved-requires
-push_reserved-requires g c =
-    let room = made c.reserve.result c.if-is_err.ensures.value c.reserve.ensures.ok in
-    omega (arith, room)
+push_reserved-requires g c = c.if-not-has_room.ensures.room refl
 
-pub returns-then-is_err-clause-err : goal.returns-then-is_err-clause-err
-returns-then-is_err-clause-err g c =
+pub returns-then-not-has_room-clause-err : goal.returns-then-not-has_room-clause-err
+returns-then-not-has_room-clause-err g c =
     let known = c.call_refusal-known.result in
     call-refused-alike _ _ c.self.view_is _ _ c.pass.view_is c.args.call c.unwrap_or.result
     (subst (λ (o : Option Refusal). IsRefusedAs o c.unwrap_or.result) c.call_refusal-known.ensures
@@ -95,8 +99,9 @@ returns-in-Err-clause-unchanged g c = (
   ap (λ (rs : List Receipt). record {
     client = c.pass.inside.client;
     priority = c.pass.inside.priority;
+    seen = c.pass.inside.seen;
     receipts = rs;
-  }) c.reserve.ensures.items ∙ c.pass.view_is,
+  }) c.has_room.ensures.items ∙ c.pass.view_is,
 )
 
 pub returns-in-Ok-clause-next : goal.returns-in-Ok-clause-next
@@ -118,14 +123,15 @@ invariant_of-self-in-Err g c =
     } in
     hub-kept old c.call.new.self c.self.inside.tally c.self.invariant c.in-Err.ensures.unchanged
 
-pub returns-then-is_err-clause-unchanged : goal.returns-then-is_err-clause-unchanged
-returns-then-is_err-clause-unchanged g c = (
+pub returns-then-not-has_room-clause-unchanged : goal.returns-then-not-has_room-clause-unchanged
+returns-then-not-has_room-clause-unchanged g c = (
   refl,
   ap (λ (rs : List Receipt). record {
     client = c.pass.inside.client;
     priority = c.pass.inside.priority;
+    seen = c.pass.inside.seen;
     receipts = rs;
-  }) c.reserve.ensures.items ∙ c.pass.view_is,
+  }) c.has_room.ensures.items ∙ c.pass.view_is,
 )
 
 pub count-requires-clause-few : goal.count-requires-clause-few
@@ -134,3 +140,33 @@ count-requires-clause-few g c =
 
 pub count-requires-clause-part : goal.count-requires-clause-part
 count-requires-clause-part g c = has_part _ c.pass.invariant.0
+
+-- the new receipt has seen the entry of its call, and its place is above the others
+pub invariant_of-pass-in-Ok : goal.invariant_of-pass-in-Ok
+invariant_of-pass-in-Ok g c =
+    let client = c.pass.inside.client in
+    let seen = c.seen-seen.result in
+    let made : Receipt = record { place = c.len-place.result; call = c.in-Ok.call; answer = None; seen = seen } in
+    let own : IsReceiptOf client made =
+    subst (λ (k : Asked). IsOwn client c.len-place.result (event.Call client k) seen)
+    (sym c.in-Ok.ensures.back)
+    (own-call (kept c.self.inside.desk) (kept c.call.new.self) c.call.new.self.core seen
+    c.in-Ok.applied client c.args.call c.len-place.result c.in-Ok.ensures.ok
+    c.len-place.ensures.value c.seen-seen.ensures.there c.seen-seen.ensures.entry) in
+    let later : last_place client c.pass.inside.receipts.items < c.len-place.result =
+    subst (λ n. last_place n c.pass.inside.receipts.items < c.len-place.result) c.client.view_is
+    (c.if-not-has_room.ensures.later refl) in (
+      c.count.ensures.parts ∙ c.pass.invariant.0,
+      omega (
+        arith,
+        c.count.ensures.amount,
+        c.push_reserved.ensures.len,
+        c.has_room.ensures.len,
+        c.pass.invariant.1,
+      ),
+      subst (AreReceipts client)
+          (sym (c.push_reserved.ensures.items
+          ∙ ap (λ (rs : List Receipt). rs ++ made ∷ []) c.has_room.ensures.items))
+          (receipts-push client c.pass.inside.receipts.items made c.pass.invariant.2 own later),
+      c.pass.invariant.3,
+    )

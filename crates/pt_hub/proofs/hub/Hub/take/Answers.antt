@@ -1,9 +1,11 @@
-use Rattle.std.proofs.Common.{Option, refl, sym, ap, ◌∙◌, subst}
+use Rattle.std.proofs.Common.{List, Option, arith, refl, sym, ap, ◌∙◌, subst}
 use Rattle.std.specs.Prelude.{IsSome}
 use Rattle.pt_model.specs.Records.{Told}
 use Rattle.pt_legal.specs.Replies.{told_of}
 use Rattle.pt_hub.specs.Hubs.{HubView, is_pending}
-use Rattle.pt_hub.specs.Passes.{PassView}
+use Rattle.pt_hub.specs.Passes.{AreReceipts, PassView}
+use Rattle.pt_hub.proofs.ReceiptOrder.{receipts-answered}
+use Rattle.pt_hub.specs.declared.pass.Receipt.{Receipt}
 use Rattle.pt_hub.proofs.HubEvents.{takes}
 use Rattle.pt_hub.proofs.HubLemmas.{hub-took}
 use Rattle.pt_hub.proofs.hub.Hub.take.Goals as goal
@@ -21,6 +23,7 @@ returns-clause-some g c =
     record {
       client = c.pass.inside.client;
       priority = c.pass.inside.priority;
+      seen = c.pass.inside.seen;
       receipts = c.pass.inside.receipts.items;
     } in
     let reply = c.in_ok-reply.reply in
@@ -44,3 +47,12 @@ invariant_of-self g c =
 
 pub take-requires : goal.take-requires
 take-requires g c = subst (λ (o : Option Told). IsSome o) c.in_ok-reply.ensures refl
+
+pub invariant_of-pass : goal.invariant_of-pass
+invariant_of-pass g c = (
+  c.pass.invariant.0,
+  omega (arith, c.answer.ensures.len, c.pass.invariant.1),
+  subst (λ (rs : List Receipt). AreReceipts c.pass.inside.client rs) (sym c.answer.ensures.items)
+      (receipts-answered c.pass.inside.client _ _ c.pass.invariant.2),
+  c.pass.invariant.3,
+)

@@ -34,17 +34,15 @@ invariant_of-self g c =
           (planned.needs ∙ ap (λ x. need (h ▷ x)) enters),
     )
 
-pub arrive-requires-clause-ready : goal.arrive-requires-clause-ready
-arrive-requires-clause-ready g c = rw c.self.view_is c.requires.ready
+pub arrive-requires-clause-can : goal.arrive-requires-clause-can
+arrive-requires-clause-can g c = record {
+  ready = rw c.self.view_is c.requires.ready;
+  asks = rw c.self.view_is c.requires.planned.asks;
+  queued = c.self.invariant.0;
+}
 
 pub arrive-requires-clause-operation : goal.arrive-requires-clause-operation
 arrive-requires-clause-operation g c = c.requires.operation
-
-pub arrive-requires-clause-asks : goal.arrive-requires-clause-asks
-arrive-requires-clause-asks g c = rw c.self.view_is c.requires.planned.asks
-
-pub arrive-requires-clause-queued : goal.arrive-requires-clause-queued
-arrive-requires-clause-queued g c = c.self.invariant.0
 
 pub returns : goal.returns
 returns g c = rw (← c.self.view_is) c.arrive.ensures.adds

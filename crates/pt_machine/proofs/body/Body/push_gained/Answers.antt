@@ -3,12 +3,11 @@ use Rattle.pt_model.specs.declared.entry.Entry.{Entry}
 use Rattle.pt_model.specs.Forced.{service}
 use Rattle.pt_model.specs.Searches.{In}
 use Rattle.pt_records.specs.Callers.{opens_of}
-use Rattle.pt_state.specs.declared.forced.Forced.TheVariants.{Serve}
 use Rattle.pt_state.specs.Adds.{Adds, IsReadyFor, past}
 use Rattle.pt_state.specs.Reads.{AreTables}
 use Rattle.pt_state.specs.Serving.{called}
 use Rattle.pt_state.proofs.ForceCallers.{known-open}
-use Rattle.pt_machine.proofs.LastTouches.{still-touched, touched-forced}
+use Rattle.pt_machine.proofs.LastTouches.{service-forced, still-touched, touched-forced}
 use Rattle.pt_machine.proofs.NeedSteps.{reserved-forced}
 use Rattle.pt_machine.proofs.NeedUses.{no_arrival, row-reserved, serves-mutex, uses-gain}
 use Rattle.pt_machine.proofs.QueuedForced.{queued-granted}
@@ -89,7 +88,8 @@ invariant_of-self g c =
       timed-served old new c.self.inside.timers c.drop_deadline.new.timers read
           c.self.invariant.1 o known
           c.drop_deadline.ensures adds,
-      touched-forced old new c.self.inside.touched c.self.inside.entering (Serve o) adds
+      touched-forced old new c.self.inside.touched c.self.inside.entering
+          (service (past old) w) (service-forced (past old) w) adds
           (c.self.invariant.2.touches ∙ still-touched (past old) w
           (no_arrival w.role w.object c.args.m c.requires.mutex)) c.self.invariant.2.enters,
       reserved-forced old new (service (past old) w) adds c.self.inside.need

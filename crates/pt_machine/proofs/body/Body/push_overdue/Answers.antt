@@ -19,16 +19,16 @@ at-its-place s p found o e is =
     (place-in p (open_calls (past s)) (called o)
     (sym e ∙ ap (option_map called) is)).1
 
-pub push_forced-requires-clause-ready : goal.push_forced-requires-clause-ready
-push_forced-requires-clause-ready g c =
+pub push_late-requires-clause-ready : goal.push_late-requires-clause-ready
+push_late-requires-clause-ready g c =
     let s = c.args.self.now in
     subst (λ (p : ℕ). IsReadyFor s (Expire p))
-    (sym (at-its-place s c.args.place (option_copied c.open_at.result) c.unwrap-late.result.now
-    c.open_at.ensures.value (ap option_copied c.unwrap-late.ensures))) c.requires.ready
+    (sym (at-its-place s c.args.place (option_copied c.open_at.result) c.unwrap.result.now
+    c.open_at.ensures.value (ap option_copied c.unwrap.ensures))) c.requires.ready
 
 pub returns : goal.returns
 returns g c =
     let s = c.args.self.now in
-    subst (λ (p : ℕ). Adds s (Expire p) c.push_forced.new.self)
-    (at-its-place s c.args.place (option_copied c.open_at.result) c.unwrap-late.result.now
-    c.open_at.ensures.value (ap option_copied c.unwrap-late.ensures)) c.push_forced.ensures
+    subst (λ (p : ℕ). Adds s (Expire p) c.push_late.new.self)
+    (at-its-place s c.args.place (option_copied c.open_at.result) c.unwrap.result.now
+    c.open_at.ensures.value (ap option_copied c.unwrap.ensures)) c.push_late.ensures

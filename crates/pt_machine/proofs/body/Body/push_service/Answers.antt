@@ -34,6 +34,9 @@ push_passed-requires-clause-other g c =
     c.requires.other (called o)
     (sym (c.requires.read.callers.look.calls c.args.c) ∙ ap (option_map called) (sym its))
 
+pub push_passed-requires-clause-plain : goal.push_passed-requires-clause-plain
+push_passed-requires-clause-plain g c = sym c.mutex_of.ensures ∙ c.in-None.is
+
 pub push_gained-requires-clause-read : goal.push_gained-requires-clause-read
 push_gained-requires-clause-read g c = c.requires.read
 

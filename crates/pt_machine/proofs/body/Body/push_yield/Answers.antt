@@ -1,6 +1,5 @@
 use Rattle.std.proofs.Common.{Some, refl, arith}
 use Rattle.pt_model.specs.declared.entry.Entry.TheVariants.{Yield}
-use Rattle.pt_state.specs.declared.forced.Forced.TheVariants.{Yield as Yields}
 use Rattle.pt_state.specs.Adds.{IsReadyFor, past}
 use Rattle.pt_machine.proofs.LastTouches.{touched-forced}
 use Rattle.pt_machine.proofs.NeedSteps.{reserved-forced}
@@ -31,7 +30,7 @@ invariant_of-self g c =
           (queued-yield (past old) m queue admitted made c.self.invariant.0),
       timed-yield old new c.self.inside.timers c.self.inside.timers ready.read
           c.self.invariant.1 m adds,
-      touched-forced old new (Some m) c.self.inside.entering (Yields m) adds refl
+      touched-forced old new (Some m) c.self.inside.entering (Yield m) refl adds refl
           c.self.invariant.2.enters,
       reserved-forced old new (Yield m) adds c.self.inside.need 1 c.self.invariant.3
           (uses-yield (past old) m ready.read.follows ready.step),

@@ -1,27 +1,9 @@
-use Rattle.std.proofs.Common.{refl, ap, ◌∙◌}
-use Rattle.pt_model.specs.WaitingCall.{role_needed}
+use Rattle.std.proofs.Common.{refl, sym, ap, ◌∙◌}
 use Rattle.pt_state.specs.Left.{only_stands}
-use Rattle.pt_state.proofs.StandLemmas.{nearly-left}
+use Rattle.pt_state.proofs.StandLemmas.{nearly-left, waits-row}
+use Rattle.pt_state.proofs.StandObjects.{mutex-there, mutex-owned, object_rows-waited}
 use Rattle.pt_state.proofs.StandObjects.{object_rows-waiting}
 use Rattle.pt_state.proofs.state.State.begin.Goals as goal
-
-pub returns-in-MutexLock-clause-ok : goal.returns-in-MutexLock-clause-ok
-returns-in-MutexLock-clause-ok g c =
-    nearly-left c.args.self.now c.args.c c.args.call.now c.requires.ready c.args.open.now
-    c.requires.left c.args.self.now.clients refl c.args.self.now.objects
-    (object_rows-waiting c.args.self.now c.args.c c.args.call.now c.requires.ready
-    c.args.open.now c.requires.left
-    (ap only_stands (c.requires.role ∙ ap role_needed c.in-MutexLock.is)))
-    c.requires.ready.read.chained
-
-pub returns-in-WriteLock-clause-ok : goal.returns-in-WriteLock-clause-ok
-returns-in-WriteLock-clause-ok g c =
-    nearly-left c.args.self.now c.args.c c.args.call.now c.requires.ready c.args.open.now
-    c.requires.left c.args.self.now.clients refl c.args.self.now.objects
-    (object_rows-waiting c.args.self.now c.args.c c.args.call.now c.requires.ready
-    c.args.open.now c.requires.left
-    (ap only_stands (c.requires.role ∙ ap role_needed c.in-WriteLock.is)))
-    c.requires.ready.read.chained
 
 pub begin_reading-requires-clause-ready : goal.begin_reading-requires-clause-ready
 begin_reading-requires-clause-ready g c = c.requires.ready
@@ -30,19 +12,77 @@ pub begin_reading-requires-clause-left : goal.begin_reading-requires-clause-left
 begin_reading-requires-clause-left g c = c.requires.left
 
 pub begin_reading-requires-clause-role : goal.begin_reading-requires-clause-role
-begin_reading-requires-clause-role g c = c.requires.role ∙ ap role_needed c.in-ReadLock.is
+begin_reading-requires-clause-role g c = c.in-ForRead.is
 
-pub returns-in-ReadLock-clause-ok : goal.returns-in-ReadLock-clause-ok
-returns-in-ReadLock-clause-ok g c = c.begin_reading.ensures.ok
+pub returns-in-ForRead : goal.returns-in-ForRead
+returns-in-ForRead g c =
+    let old = c.args.self.now in
+    let rest = c.begin_reading.ensures.rest in
+    record {
+      ok = c.begin_reading.ensures.ok;
+      err = c.begin_reading.ensures.err;
+      rest = rest ∙ ap (λ rows. record old {
+        clients = rows;
+        objects = c.begin_reading.new.self.objects;
+      }) (sym (ap (λ s. s.clients) rest));
+      refusal = c.begin_reading.ensures.refusal;
+      enough = λ other. absurd (other c.in-ForRead.is);
+    }
 
-pub returns-in-ReadLock-clause-err : goal.returns-in-ReadLock-clause-err
-returns-in-ReadLock-clause-err g c = c.begin_reading.ensures.err
+pub release-requires-clause-there : goal.release-requires-clause-there
+release-requires-clause-there g c =
+    let mutex = mutex-there c.args.self.now c.args.c c.args.call.now c.requires.ready
+    c.args.open.now c.requires.left c.in-ForCond.m c.in-ForCond.is in
+    rw mutex.1 refl
 
-pub returns-in-ReadLock-clause-rest : goal.returns-in-ReadLock-clause-rest
-returns-in-ReadLock-clause-rest g c = c.begin_reading.ensures.rest
+pub release-requires-clause-owned : goal.release-requires-clause-owned
+release-requires-clause-owned g c =
+    λ x at. mutex-owned c.args.self.now c.args.c c.args.call.now c.requires.ready c.args.open.now
+    c.requires.left c.in-ForCond.m c.in-ForCond.is x at
 
-pub returns-in-ReadLock-clause-refusal : goal.returns-in-ReadLock-clause-refusal
-returns-in-ReadLock-clause-refusal g c = c.begin_reading.ensures.refusal
+pub release-requires-clause-client : goal.release-requires-clause-client
+release-requires-clause-client g c =
+    waits-row c.args.self.now c.args.c c.args.call.now c.requires.ready
 
-pub returns-in-ReadLock-clause-enough : goal.returns-in-ReadLock-clause-enough
-returns-in-ReadLock-clause-enough g c = λ other. absurd (other c.in-ReadLock.is)
+pub release-requires-clause-chained : goal.release-requires-clause-chained
+release-requires-clause-chained g c = (c.args.self.now.orphans, c.requires.ready.read.chained)
+
+pub returns-in-ForCond-clause-ok : goal.returns-in-ForCond-clause-ok
+returns-in-ForCond-clause-ok g c =
+    let s = c.args.self.now in
+    let mutex = mutex-there s c.args.c c.args.call.now c.requires.ready
+    c.args.open.now c.requires.left c.in-ForCond.m c.in-ForCond.is in
+    nearly-left s c.args.c c.args.call.now c.requires.ready c.args.open.now
+    c.requires.left c.release.new.clients
+    (c.release.ensures.rows c.requires.ready.read.callers.once) c.release.new.objects
+    (object_rows-waited s c.args.c c.args.call.now c.requires.ready c.args.open.now
+    c.requires.left c.release.new.objects c.in-ForCond.m mutex.0 c.in-ForCond.is mutex.1
+    (c.release.ensures.mutex mutex.0 mutex.1))
+    (c.release.ensures.chained s.orphans c.requires.ready.read.chained)
+
+pub returns-in-ForMutex-clause-ok : goal.returns-in-ForMutex-clause-ok
+returns-in-ForMutex-clause-ok g c =
+    let s = c.args.self.now in
+    nearly-left s c.args.c c.args.call.now c.requires.ready c.args.open.now c.requires.left
+    s.clients refl s.objects
+    (object_rows-waiting s c.args.c c.args.call.now c.requires.ready c.args.open.now
+    c.requires.left (ap only_stands c.in-ForMutex.is))
+    c.requires.ready.read.chained
+
+pub returns-in-ForWrite-clause-ok : goal.returns-in-ForWrite-clause-ok
+returns-in-ForWrite-clause-ok g c =
+    let s = c.args.self.now in
+    nearly-left s c.args.c c.args.call.now c.requires.ready c.args.open.now c.requires.left
+    s.clients refl s.objects
+    (object_rows-waiting s c.args.c c.args.call.now c.requires.ready c.args.open.now
+    c.requires.left (ap only_stands c.in-ForWrite.is))
+    c.requires.ready.read.chained
+
+pub returns-in-ForBarrier-clause-ok : goal.returns-in-ForBarrier-clause-ok
+returns-in-ForBarrier-clause-ok g c =
+    let s = c.args.self.now in
+    nearly-left s c.args.c c.args.call.now c.requires.ready c.args.open.now c.requires.left
+    s.clients refl s.objects
+    (object_rows-waiting s c.args.c c.args.call.now c.requires.ready c.args.open.now
+    c.requires.left (ap only_stands c.in-ForBarrier.is))
+    c.requires.ready.read.chained

@@ -1,0 +1,186 @@
+-- What an accepted event takes of the cells that were made.
+use Rattle.std.proofs.Common.{◌≡◌, ℕ, ◌+◌, ◌≤◌, Bool, true, false, List, [], ◌∷◌, ◌++◌, length, Option}
+use Rattle.std.proofs.Common.{◌-◌, IfSome, slice_get, Some, None, cond, refl, sym, ap, ◌∙◌, subst, length-append, arith}
+use Rattle.std.specs.Option.{option_or}
+use Rattle.std.proofs.lemmas.List.{append_cancel_left}
+use Rattle.std.proofs.lemmas.List.Elements.{filter_map-append}
+use Rattle.pt_types.specs.declared.outcome.Refusal.{Refusal}
+use Rattle.pt_model.specs.declared.entry.Entry.{Entry}
+use Rattle.pt_model.specs.declared.entry.Event.{Event}
+use Rattle.pt_model.specs.declared.entry.Event.TheVariants as event
+use Rattle.pt_model.specs.Histories.{History, Begin, ◌▷◌, onto, behind, place}
+use Rattle.pt_model.specs.Clients.{is_alive}
+use Rattle.pt_model.specs.Forced.{forced}
+use Rattle.pt_model.specs.Legal.{LegalBehind, event_of, events_of}
+use Rattle.pt_model.specs.Room.{need, needs_seal, refusal, entry_for}
+use Rattle.pt_model.specs.Seals.{seal}
+use Rattle.pt_model.specs.Steps.{IsStart, Follows}
+use Rattle.pt_model.proofs.Agreeing.{seal_agrees}
+use Rattle.pt_model.proofs.GoesAlike.{agrees_on}
+use Rattle.pt_model.proofs.Histories.{onto-append}
+use Rattle.pt_model.proofs.Induction.{start-seal}
+use Rattle.pt_model.proofs.Legality.{behind-follows, behind-part, behind-settled, events_of-legal}
+use Rattle.pt_model.proofs.Room.{room-death}
+use Rattle.pt_model.proofs.Steps.{step-event}
+use Rattle.pt_legal.specs.declared.applied.Applied.{Applied}
+use Rattle.pt_legal.specs.Cores.{Kept, Seen, past}
+use Rattle.pt_legal.specs.Applying.{Writes, IsApplied, IsWritten, is_death}
+use Rattle.pt_legal.specs.Sealing.{sealed, IsSealed}
+use Rattle.pt_cells.specs.Cells.{CellView, SeenView, Celled, AreFirst, AreCells, IsCelled, cells_after}
+use Rattle.pt_cells.proofs.Firsts.{first-at, firsts-more}
+use Rattle.pt_cells.proofs.Reserved.{need-onto, need-outer, need-sealed}
+
+-- the entries beyond those that are reserved
+abbrev pub more_for : Event → ℕ
+more_for v = cond (is_death v) 0 4
+
+-- a Death takes one of those that are reserved, and any other event four more at most
+takes : (h : History) (v : Event) → Follows h → forced h ≡ None → refusal h v ≡ None
+    → 1 + need (h ▷ entry_for h v) ≤ need h + more_for v
+takes h (event.Join p) f n ok =
+    need-outer h (entry_for h (event.Join p)) f (step-event h (event.Join p) n ok) refl
+takes h (event.Call c call) f n ok =
+    need-outer h (entry_for h (event.Call c call)) f (step-event h (event.Call c call) n ok) refl
+takes h (event.Moment k t) f n ok =
+    need-outer h (entry_for h (event.Moment k t)) f (step-event h (event.Moment k t) n ok) refl
+takes h (event.Death c) f n ok = go (is_alive h c) refl ok
+  where
+    go : (b : Bool) → is_alive h c ≡ b → refusal h (event.Death c) ≡ None
+        → 1 + need (h ▷ entry_for h (event.Death c)) ≤ need h + 0
+    go true a ok = omega (arith, room-death h c f a)
+    go false a ok = absurd cc
+
+event_of-entry : (h : History) (v : Event) → event_of (entry_for h v) ≡ Some v
+event_of-entry h (event.Join p) = refl
+event_of-entry h (event.Call c call) = refl
+event_of-entry h (event.Death c) = refl
+event_of-entry h (event.Moment z t) = refl
+
+unrefused : (o r : Option Refusal) → option_or o r ≡ None → o ≡ None
+unrefused None r e = refl
+unrefused (Some x) r e = e
+
+-- an event that is written
+module _ (o new : Kept) (v : Event) (b : IsStart o.start) (f : Follows (past o))
+    (n : forced (past o) ≡ None) (w : Writes o v new) where
+  abbrev x : Entry
+  x = entry_for (past o) v
+
+  abbrev fs : List Entry
+  fs = w.extends.0
+
+  legal : LegalBehind o.start (o.entries ++ x ∷ fs) (events_of o.entries ++ v ∷ [])
+  legal =
+      subst (λ es. LegalBehind o.start es (events_of o.entries ++ v ∷ [])) w.extends.1
+      (subst (λ s. LegalBehind s new.entries (events_of o.entries ++ v ∷ [])) w.starts w.legal)
+
+  forced_ones : events_of fs ≡ []
+  forced_ones =
+      let all : events_of (o.entries ++ x ∷ fs) ≡ events_of o.entries ++ v ∷ [] =
+      events_of-legal (Begin o.start) (o.entries ++ x ∷ fs) (events_of o.entries ++ v ∷ []) legal in
+      let rest : events_of (x ∷ fs) ≡ v ∷ [] =
+      append_cancel_left (events_of o.entries) (events_of (x ∷ fs)) (v ∷ [])
+      (sym (filter_map-append event_of o.entries (x ∷ fs)) ∙ all) in
+      let first : events_of (x ∷ fs) ≡ v ∷ events_of fs =
+      let is : event_of x ≡ Some v = event_of-entry (past o) v in rw is refl in
+      append_cancel_left (v ∷ []) (events_of fs) [] (sym first ∙ rest)
+
+  whole : past new ≡ onto (past o ▷ x) fs
+  whole =
+      ap (λ s. behind s new.entries) w.starts ∙ ap (behind o.start) w.extends.1
+      ∙ onto-append (Begin o.start) o.entries (x ∷ fs)
+
+  lengths : length new.entries ≡ length o.entries + length (x ∷ fs)
+  lengths = ap length w.extends.1 ∙ length-append o.entries (x ∷ fs)
+
+  -- it takes no more than was made for it, and what is reserved after it is left
+  pub leaves-room : need (past new) + length new.entries ≤ length o.entries + (need (past o) + more_for v)
+  leaves-room =
+      omega (
+        arith,
+        lengths,
+        ap need whole,
+        need-onto (past o ▷ x) fs
+            (behind-part o.start o.entries (x ∷ fs) (events_of o.entries ++ v ∷ []) b legal)
+            forced_ones,
+        takes (past o) v f n (unrefused (refusal (past o) v) _ w.accepted),
+      )
+
+  pub grows : length o.entries ≤ length new.entries
+  grows = omega (arith, lengths)
+
+  -- the cells that were there are still those of the first entries
+  pub first-more : (cs : List (Option CellView)) → AreFirst o.entries cs → AreFirst new.entries cs
+  first-more cs r = subst (λ es. AreFirst es cs) (sym w.extends.1) (firsts-more o.entries (x ∷ fs) cs r)
+
+-- a core whose entries have cells, and an event that was applied to it
+module _ (k new : Kept) (v : Event) (a : Applied) (b : IsStart k.start)
+    (l : LegalBehind k.start k.entries (events_of k.entries)) (ok : IsApplied k v new a)
+    (cs : List (Option CellView)) (are : AreCells k.entries cs) where
+  f : Follows (past k)
+  f = behind-follows k.start k.entries (events_of k.entries) b l
+
+  n : forced (past k) ≡ None
+  n = behind-settled k.start k.entries (events_of k.entries) b l
+
+  -- the cells that stay, and the number of entries that were made for
+  pub record Fits : Type 0 where
+    pub first : AreFirst new.entries (cells_after a.sealed cs)
+    pub few : length (cells_after a.sealed cs) ≤ length new.entries
+    pub room : need (past new) + length new.entries
+        ≤ length (cells_after a.sealed cs) + (need (past k) + more_for v)
+
+  by_seal : (s : Bool) → needs_seal k.limit (past k) v ≡ s → a.sealed ≡ (cond s (Some (place (past k))) None)
+      → IsWritten (cond s (sealed k) k) v new a → Fits
+  by_seal false e t w =
+      let r : cells_after a.sealed cs ≡ cs = ap (λ (z : Option ℕ). cells_after z cs) t in
+      record {
+        first = subst (AreFirst new.entries) (sym r) (first-more k new v b f n w.writes cs are.first);
+        few = omega (arith, ap length r, are.all, grows k new v b f n w.writes);
+        room = omega (arith, ap length r, are.all, leaves-room k new v b f n w.writes);
+      }
+  by_seal true e t w =
+      let r : cells_after a.sealed cs ≡ [] = ap (λ (z : Option ℕ). cells_after z cs) t in
+      let g = start-seal (past k) f in
+      let same = agrees_on (past k) (Begin (seal (past k))) f g (seal_agrees (past k) f) in
+      record {
+        first = subst (AreFirst new.entries) (sym r) tt;
+        few = omega (arith, ap length r);
+        room = omega (
+          arith,
+          ap length r,
+          same.needs,
+          leaves-room (sealed k) new v g g (sym same.forces ∙ n) w.writes,
+        );
+      }
+
+  pub fits : Fits
+  fits = by_seal (needs_seal k.limit (past k) v) refl ok.sealed ok.written
+
+-- a core that is sealed has no entries, and its cells are let go
+pub sealed-celled : (k new : Kept) (at : ℕ) (cs ds : List (Option CellView)) (made left : ℕ)
+    → IsStart k.start → LegalBehind k.start k.entries (events_of k.entries) → IsSealed k new at
+    → IsCelled k cs made → ds ≡ [] → left ≡ made → IsCelled new ds left
+sealed-celled k new at cs ds made left b l ok is e same =
+    subst (λ (n : Kept). IsCelled n ds left) (sym ok.core)
+    (record {
+      each = subst (AreCells []) (sym e) (record { first = tt; all = refl });
+      enough = omega (
+        arith,
+        need-sealed (past k) (behind-follows k.start k.entries (events_of k.entries) b l),
+        is.enough,
+        same,
+      );
+    })
+
+-- an entry that was seen is that of the history
+pub seen-entry : (k : Seen) (cs : List (Option CellView)) (w : Celled)
+    → ◌≡◌ {A = Celled} (record { core = k; cells = cs }) w → AreCells k.entries cs
+    → (o : Option SeenView) (first place : ℕ) → first ≡ k.start.at
+    → IfSome o (λ s. (s.place ≡ place) × (slice_get cs (place - first) ≡ Some (Some s.cell)))
+    → IfSome o (λ s. slice_get w.core.entries (place - w.core.start.at) ≡ Some s.cell.entry)
+seen-entry k cs w is are None first place f so = tt
+seen-entry k cs w is are (Some s) first place f so =
+    subst (λ (v : Celled). slice_get v.core.entries (place - v.core.start.at) ≡ Some s.cell.entry) is
+    (first-at k.entries cs (place - k.start.at) s.cell are.first
+    (ap (λ (n : ℕ). slice_get cs (place - n)) (sym f) ∙ so.1))

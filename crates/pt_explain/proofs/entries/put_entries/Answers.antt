@@ -1,0 +1,44 @@
+use Rattle.std.proofs.Common.{◌≡◌, ◌∙◌, ◌++◌, refl, sym, ap, arith}
+use Rattle.pt_legal.specs.Cores.{shown}
+use Rattle.pt_model.proofs.Histories.{place-behind}
+use Rattle.pt_explain.specs.Entries.{entries_from, entry_lines}
+use Rattle.pt_explain.proofs.EntryLines.{line_next, line_none, line_end}
+use Rattle.pt_explain.proofs.entries.put_entries.Goals as goal
+use Rattle.pt_explain.proofs.entries.put_entries.Goals.{in-Some+in_ok-put_entry}
+use Rattle.pt_explain.proofs.entries.put_entries.Goals.{in_default}
+
+pub loop-place-init : goal.loop-place-init
+loop-place-init g c = record { since = c.requires; text = refl }
+
+pub loop-place-preserved : goal.loop-place-preserved
+loop-place-preserved g c =
+    let s = g.C.LegalHistory.seen c.args.core.now in
+    let at = (shown s).start.at in
+    let place = c.loop-place.place in
+    let before = c.loop-place.out.items in
+    let text = c.args.out.now.items ++ entry_lines c.args.from (entries_from s c.args.from) in
+    let since = c.loop-place.invariant.since in
+    let found = c.entry.ensures.since since in
+    record {
+      since = omega (arith, since);
+      text =
+          elim c.match-entry.branch [
+            | in-Some+in_ok-put_entry w ↦
+                line_next at place s.entries w.in-Some.entry before c.match-entry.out.items text
+                since (sym found ∙ w.in-Some.is) c.loop-place.invariant.text
+                (ap (λ o. o.items) w.out-is ∙ w.in_ok-put_entry.ensures.ok)
+            | in_default w ↦
+                line_none at place s.entries c.match-entry.out.items text since
+                (sym found ∙ w.in_default.is)
+                (ap (λ o. o.items ++ entry_lines place (entries_from s place)) w.out-is
+                ∙ c.loop-place.invariant.text)
+          ];
+    }
+
+pub returns-clause-ok : goal.returns-clause-ok
+returns-clause-ok g c =
+    let s = g.C.LegalHistory.seen c.args.core.now in
+    line_end (shown s).start.at c.loop-place.place s.entries c.loop-place.out.items
+    (c.args.out.now.items ++ entry_lines c.args.from (entries_from s c.args.from))
+    (omega (arith, c.len-end.ensures.value, place-behind (shown s).start s.entries))
+    c.loop-place.invariant.text

@@ -1,0 +1,31 @@
+use Rattle.std.proofs.Common.{◌-◌, ◌++◌}
+use Rattle.pt_grammar.specs.Lines.{Held}
+use Rattle.pt_engine.specs.declared.fault.ScriptFault.TheVariants.{Write}
+use Rattle.pt_engine.specs.Engines.{known_by}
+use Rattle.pt_script.specs.Texts.{Writing}
+use Rattle.pt_script.specs.Stops.{IsStopped}
+use Rattle.pt_script.proofs.Stops.{cut_off, told_fault}
+use Rattle.pt_explain.specs.Explanations.{explains}
+use Rattle.pt_explain.proofs.whole.take_in.Goals as goal
+
+pub returns-in_err-deliver-clause-err : goal.returns-in_err-deliver-clause-err
+returns-in_err-deliver-clause-err g c =
+    let known = known_by c.args.engine.now in
+    let gives = c.from_residual-in_err-deliver.ensures in
+    let why = c.in_err-deliver.ensures.why in
+    let held : Held =
+    record c.args.cutter.now { rest = c.args.cutter.now.rest ++ c.args.piece.now } in
+    let old = g.W.Sink.taken c.args.writer.now in
+    let writing : Writing = record {
+      taken = g.W.Sink.taken c.deliver.new.writer;
+      flushed = g.W.Sink.flushed c.deliver.new.writer;
+      failures = g.W.Sink.failures c.deliver.new.writer;
+      rejections =
+          g.W.Sink.rejections c.deliver.new.writer - g.W.Sink.rejections c.args.writer.now;
+    } in
+    told_fault c.from_residual-in_err-deliver.result Write
+    (λ fault. IsStopped explains fault held known old writing) (rw why at gives.1)
+    (cut_off explains held c.feed.new.self known
+    c.new-out.result.items c.explain_all.new.cutter (known_by c.explain_all.new.engine)
+    c.explain_all.new.out.items c.deref.result.now old writing c.in_ok-explain_all.ensures.ok
+    c.in-Ok.ensures.ok c.new-out.ensures.items c.deref.ensures.value c.in_err-deliver.ensures.err)

@@ -1,0 +1,60 @@
+-- Explanations: what explains a line of a script, and all of them.
+use Rattle.std.specs.Prelude.{◌≡◌, ℕ, ◌-◌, ◌==◌, ◌||◌, ◌++◌, Bool, true, false, List, [], ◌∷◌}
+use Rattle.std.specs.Prelude.{codes, drop, length, slice_index, if◌then◌else◌}
+use Rattle.pt_grammar.specs.declared.cut.Cut.{Cut}
+use Rattle.pt_grammar.specs.declared.cut.Cut.TheVariants.{Line, Long}
+use Rattle.pt_grammar.specs.Script.{script_of}
+use Rattle.pt_model.specs.Histories.{place}
+use Rattle.pt_model.specs.declared.entry.Entry.{Entry}
+use Rattle.pt_legal.specs.Cores.{past}
+use Rattle.pt_engine.specs.Scripts.{Script, core_of}
+use Rattle.pt_engine.specs.Says.{Says}
+use Rattle.pt_script.specs.Tellings.{Telling}
+use Rattle.pt_explain.specs.Entries.{entry_lines}
+
+-- answers as a trace has them, each behind `> `; the flag says whether a line begins here
+-- [profile]
+abbrev pub quoted : (begins : Bool) → List ℕ → List ℕ
+quoted begins [] = []
+quoted true (b ∷ bytes) = codes "> " ++ b ∷ quoted (b == 10) bytes
+quoted false (b ∷ bytes) = b ∷ quoted (b == 10) bytes
+
+-- whether another row of a trace than a line of a script can begin with this byte: a space, `#`,
+-- `<` or `>`  [profile]
+abbrev pub begins_row : ℕ → Bool
+begins_row b = (b == 32) || (b == 35) || (b == 60) || (b == 62)
+
+-- what marks a line of a script that is empty, or that begins as another row of a trace  [profile]
+abbrev pub mark : List ℕ → List ℕ
+mark text =
+    if (length text == 0) || begins_row (slice_index text 0) then codes "< " else []
+
+-- a line of a script as a trace has it, behind its mark; `<` alone if it was too long  [profile]
+abbrev pub echo : Cut → List ℕ
+echo (Line text) = mark text.items ++ text.items ++ 10 ∷ []
+echo Long = codes "<" ++ 10 ∷ []
+
+-- the place of the next entry after these lines
+abbrev pub next_place : Script → ℕ
+next_place s = place (past (core_of s))
+
+-- the entries of a script from a place on
+abbrev pub entries_since : Script → ℕ → List Entry
+entries_since s at = drop (at - s.start.at) s.entries
+
+-- what explains a line: the line, the entries that it added to the history, each with its place,
+-- the answers that a script writes for it, and an empty line
+pub record Explains (s : Script) (cut : Cut) (next : Script) (text : List ℕ) : Type 0 where
+  pub answers : List ℕ
+  pub says : Says s (script_of cut) next answers
+  pub written :
+      text
+      ≡ echo cut ++ entry_lines (next_place s) (entries_since next (next_place s))
+      ++ quoted true answers ++ 10 ∷ []
+
+-- what explains lines, one after another
+abbrev pub explains : Telling
+explains s [] last text = (last ≡ s) × (text ≡ [])
+explains s (cut ∷ more) last text =
+    (next : Script) × (first : List ℕ) × (rest : List ℕ)
+    × Explains s cut next first × explains next more last rest × (text ≡ first ++ rest)

@@ -1,0 +1,6 @@
+-- Entries: the lines of the entries that a script's line added
+pub mod Entries
+-- Explanations: what is written to explain a line of a script
+pub mod Explanations
+-- TellingLemmas: explanations are a way to tell what came of lines
+pub mod TellingLemmas

@@ -1,0 +1,82 @@
+//! The parts of an explanation, each appended to a buffer.
+
+ghost use Rattle.std.specs.Prelude.{◌≡◌, ◌++◌, ◌∷◌, [], true, OnOk, IfErr};
+ghost use Rattle.pt_explain.specs.Explanations.{begins_row as is_row_byte, echo, quoted};
+ghost use Rattle.pt_explain.specs.Explanations.{mark as mark_of};
+
+use pt_engine::ScriptFault;
+use pt_lines::Cut;
+use std::alloc::Allocator;
+
+fn put<A: Allocator + Copy>(out: &mut Vec<u8, A>, bytes: &[u8]) -> Result<(), ScriptFault>
+    ensures ok { OnOk result (out.new.items ≡ out.old.items ++ bytes.now) }
+    ensures why { IfErr result (λ fault. fault ≡ ScriptFault.Memory) }
+{
+    match out.extend_from_slice(bytes) {
+        Ok(()) => Ok(()),
+        Err(_) => Err(ScriptFault::Memory),
+    }
+}
+
+/// Appends a byte.
+pub fn put_byte<A: Allocator + Copy>(out: &mut Vec<u8, A>, byte: u8) -> Result<(), ScriptFault>
+    ensures ok { OnOk result (out.new.items ≡ out.old.items ++ byte ∷ []) }
+    ensures why { IfErr result (λ fault. fault ≡ ScriptFault.Memory) }
+{
+    match out.push(byte) {
+        Ok(()) => Ok(()),
+        Err(_) => Err(ScriptFault::Memory),
+    }
+}
+
+// Returns whether another row of a trace than a line of a script can begin with this byte.
+fn begins_row(byte: u8) -> bool
+    ensures { result ≡ is_row_byte byte }
+{
+    byte == b' ' || byte == b'#' || byte == b'<' || byte == b'>'
+}
+
+// Returns what marks a line of a script in a trace.
+fn mark(text: &[u8]) -> &'static [u8]
+    ensures { result.now ≡ mark_of text.now }
+{
+    if text.is_empty() || begins_row(text[0]) {
+        b"< "
+    } else {
+        b""
+    }
+}
+
+/// Appends a line of a script as a trace has it.
+pub fn put_line<A: Allocator + Copy>(out: &mut Vec<u8, A>, cut: &Cut) -> Result<(), ScriptFault>
+    ensures ok { OnOk result (out.new.items ≡ out.old.items ++ echo cut.now) }
+    ensures why { IfErr result (λ fault. fault ≡ ScriptFault.Memory) }
+{
+    match cut {
+        Cut::Line(text) => {
+            put(out, mark(text.as_slice()))?;
+            put(out, text.as_slice())?;
+        }
+        Cut::Long => put(out, b"<")?,
+    }
+    put_byte(out, b'\n')
+}
+
+/// Appends answers as a trace has them, each behind `> `.
+pub fn put_quoted<A: Allocator + Copy>(
+    out: &mut Vec<u8, A>,
+    answers: &[u8],
+) -> Result<(), ScriptFault>
+    ensures ok { OnOk result (out.new.items ≡ out.old.items ++ quoted true answers.now) }
+    ensures why { IfErr result (λ fault. fault ≡ ScriptFault.Memory) }
+{
+    let mut begins = true;
+    for byte in answers {
+        if begins {
+            put(out, b"> ")?;
+        }
+        put_byte(out, *byte)?;
+        begins = *byte == b'\n';
+    }
+    Ok(())
+}

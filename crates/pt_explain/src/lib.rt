@@ -1,0 +1,19 @@
+//! Explains a script: each line, the entries that it added to the legal history, and its answers.
+//!
+//! `explain` is the program `ptserver explain`. It reads, writes and reports faults as the program
+//! of `pt_script` does. Contracts say that the answers to a line are exactly those that a script
+//! writes for it, and that the entries are exactly those that the line added to the history, each
+//! at its place, even if the history is sealed for them. What is written is a trace: a line of the
+//! script that looks like another row of one begins with `< `, each entry is a remark, and each
+//! answer begins with `> `.
+//!
+//! Only tests show that the fault `Memory` comes only after a refused growth.
+#![tactic(auto)]
+
+mod appending;
+mod entries;
+mod lines;
+mod program;
+mod whole;
+
+pub use program::explain;

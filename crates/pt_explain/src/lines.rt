@@ -1,0 +1,93 @@
+//! The lines of a cutter, explained one after another.
+
+ghost use Rattle.std.specs.Prelude.{◌≡◌, ◌<◌, ◌+◌, ◌^◌, [], length, OnOk, IfOk, IfErr};
+ghost use Rattle.std.specs.Bool.{OnTrue, OnFalse};
+ghost use Rattle.pt_grammar.specs.Lines.{to_come, IsBegun};
+ghost use Rattle.pt_engine.specs.Engines.{Adds, known_by};
+ghost use Rattle.pt_script.specs.Tellings.{AreTold, IsTold};
+ghost use Rattle.pt_explain.specs.Explanations.{Explains, explains};
+
+use crate::appending::{put_byte, put_line, put_quoted};
+use crate::entries::put_entries;
+use pt_engine::{Engine, ScriptFault};
+use pt_legal::LegalHistory;
+use pt_lines::{Cut, Cutter, ScriptLine};
+use std::alloc::Allocator;
+
+// Answers a line, and appends what explains it: the line, the entries that it added, and its
+// answers. A refused growth for which the line is not answered ENOMEM is a fault.
+fn explain_line<C: LegalHistory, A: Allocator + Copy>(
+    engine: &mut Engine<C, A>,
+    cut: &Cut,
+    out: &mut Vec<u8, A>,
+) -> Result<(), ScriptFault>
+    requires { length engine.old.seen < 2 ^ 53 }
+    ensures ok { OnOk result (Adds (Explains (known_by engine.old) cut.now (known_by engine.new))
+        out.old.items out.new.items) }
+    ensures why { IfErr result (λ fault. fault ≡ ScriptFault.Memory) }
+{
+    let place = engine.entries();
+    let mut answers = Vec::new(*out.allocator());
+    engine.answer(ScriptLine::of(cut), &mut answers)?;
+    put_line(out, cut)?;
+    put_entries(out, engine.core(), place)?;
+    put_quoted(out, &answers)?;
+    put_byte(out, b'\n')
+}
+
+// Explains the next line and returns true, if the cutter has the whole line.
+fn explain_next<C: LegalHistory, A: Allocator + Copy>(
+    engine: &mut Engine<C, A>,
+    cutter: &mut Cutter<A>,
+    out: &mut Vec<u8, A>,
+) -> Result<bool, ScriptFault>
+    requires { length engine.old.seen < 2 ^ 53 }
+    ensures ok { OnOk result (AreTold explains cutter.old (known_by engine.old) out.old.items
+        cutter.new (known_by engine.new) out.new.items) }
+    ensures fewer { IfOk result (λ more.
+        OnTrue more (length cutter.new.rest < length cutter.old.rest)) }
+    ensures begun { IfOk result (λ more. OnFalse more (IsBegun cutter.new)) }
+    ensures why { IfErr result (λ fault. fault ≡ ScriptFault.Memory) }
+{
+    match cutter.next_line() {
+        Some(cut) => {
+            explain_line(engine, &cut, out)?;
+            Ok(true)
+        }
+        None => Ok(false),
+    }
+}
+
+/// Explains all lines that the cutter has in whole.
+pub fn explain_all<C: LegalHistory, A: Allocator + Copy>(
+    engine: &mut Engine<C, A>,
+    cutter: &mut Cutter<A>,
+    out: &mut Vec<u8, A>,
+) -> Result<(), ScriptFault>
+    requires { length engine.old.seen + length (to_come cutter.old []) < 2 ^ 53 }
+    ensures ok { OnOk result (AreTold explains cutter.old (known_by engine.old) out.old.items
+        cutter.new (known_by engine.new) out.new.items) }
+    ensures begun { OnOk result (IsBegun cutter.new) }
+    ensures why { IfErr result (λ fault. fault ≡ ScriptFault.Memory) }
+{
+    while explain_next(engine, cutter, out)? {}
+    Ok(())
+}
+
+/// Explains the last line, if there is one that no newline ended.
+pub fn explain_last<C: LegalHistory, A: Allocator + Copy>(
+    engine: &mut Engine<C, A>,
+    cutter: Cutter<A>,
+    out: &mut Vec<u8, A>,
+) -> Result<(), ScriptFault>
+    requires begun { IsBegun cutter }
+    requires few { length engine.old.seen < 2 ^ 53 }
+    ensures ok { OnOk result (IsTold explains (known_by engine.old) (to_come cutter [])
+        out.old.items (known_by engine.new) out.new.items) }
+    ensures why { IfErr result (λ fault. fault ≡ ScriptFault.Memory) }
+{
+    match cutter.finish() {
+        Some(cut) => explain_line(engine, &cut, out),
+        None => Ok(()),
+    }
+}

@@ -1,0 +1,72 @@
+use Rattle.std.proofs.Common.{refl, ◌≡◌, ◌+◌, Some, ap, ◌∙◌, arith, subst}
+use Rattle.pt_model.specs.declared.entry.Entry.TheVariants.{Expire}
+use Rattle.pt_model.specs.Histories.{◌▷◌}
+use Rattle.pt_model.specs.Room.{need}
+use Rattle.pt_model.specs.Searches.{In}
+use Rattle.pt_records.specs.Callers.{opens_of}
+use Rattle.pt_state.specs.Adds.{Adds, IsReadyFor, past}
+use Rattle.pt_machine.proofs.LastTouches.{touched-forced}
+use Rattle.pt_machine.proofs.NeedSteps.{reserved-forced}
+use Rattle.pt_machine.proofs.OpenRowCalls.{row-goal}
+use Rattle.pt_machine.proofs.TimedStates.{own-deadlines, timed-late}
+use Rattle.pt_machine.proofs.body.Body.push_late.Goals as goal
+
+pub used_by_expiry-used-requires-clause-read : goal.used_by_expiry-used-requires-clause-read
+used_by_expiry-used-requires-clause-read g c = c.requires.ready.read
+
+pub used_by_expiry-used-requires-clause-step : goal.used_by_expiry-used-requires-clause-step
+used_by_expiry-used-requires-clause-step g c = c.requires.ready.step
+
+pub used_by_expiry-used-requires-clause-known : goal.used_by_expiry-used-requires-clause-known
+used_by_expiry-used-requires-clause-known g c = c.requires.known
+
+pub push_expire-requires-clause-ready : goal.push_expire-requires-clause-ready
+push_expire-requires-clause-ready g c = rw c.self.view_is c.requires.ready
+
+pub push_expire-requires-clause-queued : goal.push_expire-requires-clause-queued
+push_expire-requires-clause-queued g c = c.self.invariant.0
+
+pub push_expire-requires-clause-known : goal.push_expire-requires-clause-known
+push_expire-requires-clause-known g c = rw c.self.view_is c.requires.known
+
+pub drop_deadline-requires : goal.drop_deadline-requires
+drop_deadline-requires g c =
+    let old = c.self.inside.state in
+    let ready : IsReadyFor old (Expire c.args.late.now.call.place) =
+    rw c.self.view_is c.requires.ready in
+    own-deadlines old c.self.inside.timers ready.read c.self.invariant.1 c.args.late.now
+    (rw c.self.view_is c.requires.known)
+
+pub overflow_sub-self : goal.overflow_sub-self
+overflow_sub-self g c =
+    let old = c.self.inside.state in
+    let used : need (past old ▷ Expire c.args.late.now.call.place) + c.used_by_expiry-used.result
+    ≡ need (past old) = rw c.self.view_is c.used_by_expiry-used.ensures in
+    omega (arith, c.self.invariant.3.needs, used)
+
+pub returns : goal.returns
+returns g c =
+    subst (λ t. Adds t (Expire c.args.late.now.call.place) c.push_expire.new.state)
+    c.self.view_is c.push_expire.ensures.adds
+
+pub invariant_of-self : goal.invariant_of-self
+invariant_of-self g c =
+    let old = c.self.inside.state in
+    let new = c.push_expire.new.state in
+    let late = c.args.late.now in
+    let e = Expire late.call.place in
+    let ready : IsReadyFor old e = rw c.self.view_is c.requires.ready in
+    let known : In late (opens_of old.clients) = rw c.self.view_is c.requires.known in
+    let used : need (past old ▷ e) + c.used_by_expiry-used.result ≡ need (past old) =
+    rw c.self.view_is c.used_by_expiry-used.ensures in (
+      c.push_expire.ensures.queued,
+      timed-late old new c.self.inside.timers c.drop_deadline.new.timers ready.read
+          c.self.invariant.1 late known c.drop_deadline.ensures c.push_expire.ensures.adds,
+      touched-forced old new (Some c.goal_of.result) c.self.inside.entering (Expire late.call.place) refl
+          c.push_expire.ensures.adds
+          (ap Some c.goal_of.ensures
+          ∙ row-goal (past old) old.clients ready.read.follows ready.read.callers late known)
+          c.self.invariant.2.enters,
+      reserved-forced old new e c.push_expire.ensures.adds c.self.inside.need
+          c.used_by_expiry-used.result c.self.invariant.3 used,
+    )

@@ -1,0 +1,10 @@
+-- Tables: which line of a verdict table applies
+pub mod Tables
+-- MutexRules: the lines of the tables of mutexes
+pub mod MutexRules
+-- RwlockRules: the lines of the tables of read-write locks
+pub mod RwlockRules
+-- CondRules: the lines of the table of a wait
+pub mod CondRules
+-- ObjectRules: the lines of the tables of making and destroying objects
+pub mod ObjectRules

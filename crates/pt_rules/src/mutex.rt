@@ -1,0 +1,94 @@
+ghost use Rattle.std.specs.Prelude.{◌≡◌};
+ghost use Rattle.pt_rules.specs.MutexRules.{consistent_rule as consistent_line};
+ghost use Rattle.pt_rules.specs.MutexRules.{lock_rule as lock_line, unlock_rule as unlock_line};
+
+use pt_types::views::MutexView;
+use pt_types::{ClientId, Consistency, How, MOST_LOCKS, MutexKind};
+
+/// The line of the table of lock calls that applies.  [XSH pthread_mutex_lock]
+#[derive(Clone, Copy, PartialEq, Eq)]
+pub enum LockRule {
+    /// The mutex is not recoverable.
+    Lost,
+    /// The mutex has no owner.
+    Free,
+    /// The caller owns it, it is RECURSIVE, and the count rises.
+    Relocked,
+    /// The same, but the count is the greatest.
+    TooOften,
+    /// A `trylock` does not wait.
+    Tried,
+    /// The caller owns it, and it is ERRORCHECK.
+    Deadlocks,
+    /// The nanoseconds are a second or more.
+    BadTime,
+    Waits,
+}
+
+/// Returns the line that applies to a caller's lock call.
+pub fn lock_rule(m: &MutexView, c: ClientId, how: &How) -> LockRule
+    ensures { result ≡ lock_line m.now c how.now }
+{
+    let owns = m.owner == Some(c);
+    if matches!(m.consistency, Consistency::NotRecoverable) {
+        LockRule::Lost
+    } else if m.owner.is_none() {
+        LockRule::Free
+    } else if owns && matches!(m.kind, MutexKind::Recursive) && m.count < MOST_LOCKS as u64 {
+        LockRule::Relocked
+    } else if owns && matches!(m.kind, MutexKind::Recursive) {
+        LockRule::TooOften
+    } else if matches!(how, How::Try) {
+        LockRule::Tried
+    } else if owns && matches!(m.kind, MutexKind::Errorcheck) {
+        LockRule::Deadlocks
+    } else {
+        match how {
+            How::Timed(due) if due.is_bad() => LockRule::BadTime,
+            _ => LockRule::Waits,
+        }
+    }
+}
+
+/// The line of the table of `unlock` that applies.  [XSH pthread_mutex_unlock]
+#[derive(Clone, Copy, PartialEq, Eq)]
+pub enum UnlockRule {
+    /// The caller does not own the mutex.
+    NotOwner,
+    GivesBack,
+}
+
+/// Returns the line that applies to a caller's `unlock`.
+pub fn unlock_rule(m: &MutexView, c: ClientId) -> UnlockRule
+    ensures { result ≡ unlock_line m.now c }
+{
+    if m.owner == Some(c) {
+        UnlockRule::GivesBack
+    } else {
+        UnlockRule::NotOwner
+    }
+}
+
+/// The line of the table of `consistent` that applies.  [XSH pthread_mutex_consistent]
+#[derive(Clone, Copy, PartialEq, Eq)]
+pub enum ConsistentRule {
+    /// The mutex is not robust, or not inconsistent.
+    NotInconsistent,
+    /// The caller does not own the mutex.
+    NotOwner,
+    Restores,
+}
+
+/// Returns the line that applies to a caller's `consistent`.
+pub fn consistent_rule(m: &MutexView, c: ClientId) -> ConsistentRule
+    ensures { result ≡ consistent_line m.now c }
+{
+    let is_inconsistent = matches!(m.consistency, Consistency::Inconsistent);
+    if !(m.robust && is_inconsistent) {
+        ConsistentRule::NotInconsistent
+    } else if m.owner != Some(c) {
+        ConsistentRule::NotOwner
+    } else {
+        ConsistentRule::Restores
+    }
+}
