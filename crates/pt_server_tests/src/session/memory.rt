@@ -18,6 +18,8 @@ use std::thread::Threads;
 struct ShutAt(u64);
 
 impl Gate for ShutAt {
+    const MAY_HOLD: bool = false;
+
     fn ask(&self, _session: SessionId, n: u64) -> bool {
         n < self.0
     }
