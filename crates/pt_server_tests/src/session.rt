@@ -1,4 +1,3 @@
 mod memory;
 mod remains;
-mod sides;
 mod threads;

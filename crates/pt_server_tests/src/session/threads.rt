@@ -143,7 +143,7 @@ impl<'a, 'b, 'c, L: Ledger, T: Wait + HostClock> Gate for Holding<'a, 'b, 'c, L,
 // ends.
 #[derive(Clone, Copy)]
 struct Play<'a> {
-    input: &'a [u8],
+    input: &'static [u8],
     patience: Patience,
     marks: &'a Marks,
     line: u64,
@@ -225,7 +225,8 @@ fn are_played_in<L: Ledger + Send + Sync, R: Threads + Wait + HostClock + Sync>(
     rt: &R,
     alloc: Global,
     blank: Blank,
-    plays: (&Play, &Play),
+    one: &Play,
+    other: &Play,
     texts: Texts,
 ) -> bool
     requires { (blank.name ≡ L.name) × (blank.parts ≡ L.parts) × (blank.parts ≡ 2 ^ 63) }
@@ -234,7 +235,6 @@ fn are_played_in<L: Ledger + Send + Sync, R: Threads + Wait + HostClock + Sync>(
         return false;
     };
     let shared = pt_session::Shared::new(hub);
-    let (one, other) = plays;
     let (first, second) = thread::join(
         rt,
         || converse(rt, alloc, &shared, one),
@@ -255,10 +255,11 @@ fn are_played_in<L: Ledger + Send + Sync, R: Threads + Wait + HostClock + Sync>(
 fn are_played<R: Threads + Wait + HostClock + Sync>(
     rt: &R,
     alloc: Global,
-    plays: (&Play, &Play),
+    one: &Play,
+    other: &Play,
     texts: Texts,
 ) -> bool {
-    are_played_in::<Brand, R>(rt, alloc, Blank::new(1 << 63), plays, texts)
+    are_played_in::<Brand, R>(rt, alloc, Blank::new(1 << 63), one, other, texts)
 }
 
 fn no_marks() -> Marks {
@@ -292,7 +293,7 @@ fn row_27(rt: HostRuntime) {
         ends_at: 2,
     };
     let texts = Some(("1 0\n2 0\n3 0\n", "1 0\n2 EOWNERDEAD\n"));
-    assert!(rt; are_played(&rt, rt.alloc(), (&first, &second), texts));
+    assert!(rt; are_played(&rt, rt.alloc(), &first, &second, texts));
 }
 
 const CROSSING: &[u8] = b"hello 10\nmutex-init m normal stalled\nlock m\nunlock m\n";
@@ -303,7 +304,7 @@ const CROSSING: &[u8] = b"hello 10\nmutex-init m normal stalled\nlock m\nunlock 
 fn is_crossed<R: Threads + Wait + HostClock + Sync>(
     rt: &R,
     alloc: Global,
-    input: &[u8],
+    input: &'static [u8],
     patience: (Patience, Patience),
     texts: Texts,
 ) -> bool {
@@ -326,7 +327,7 @@ fn is_crossed<R: Threads + Wait + HostClock + Sync>(
         ends_by: &two.answered,
         ends_at: 3,
     };
-    are_played(rt, alloc, (&first, &second), texts)
+    are_played(rt, alloc, &first, &second, texts)
 }
 
 #[test]
