@@ -7,7 +7,7 @@ use std::process::ExitCode;
 
 fn main(rt: HostRuntime) -> ExitCode {
     match read_task(&rt) {
-        Task::Script | Task::Explain | Task::Serve(_) => ExitCode::SUCCESS,
+        Task::Script | Task::Explain | Task::Check(_) | Task::Serve(_) => ExitCode::SUCCESS,
         Task::End(status) => status,
     }
 }

@@ -32,12 +32,23 @@ pub struct Service {
     pub sessions: u64,
 }
 
+/// The traces to check, and how.
+#[derive(Drop)]
+pub struct Traces {
+    /// The paths of the files, or none for standard input.
+    pub files: Vec<String>,
+    /// Whether an answer may come after a later line.
+    pub takes_late: bool,
+}
+
 /// The task that a command line asks of the program.
 pub enum Task {
     /// Answer a script.
     Script,
     /// Explain a script.
     Explain,
+    /// Check traces.
+    Check(Traces),
     /// Serve a socket.
     Serve(Service),
     /// Do nothing more. What was asked for, or what is wrong, has been shown.
@@ -71,6 +82,18 @@ fn read_service(alloc: Global, options: &ArgMatches) -> Result<Service, Error> {
     })
 }
 
+// Returns the traces that the words of `check` name, or an error if memory is lacking.
+fn read_traces(alloc: Global, options: &ArgMatches) -> Result<Traces, Error> {
+    let mut files = Vec::new(alloc);
+    for file in options.get_strs("FILE").unwrap_or(&[]) {
+        files.push(String::from_str(alloc, file)?)?;
+    }
+    Ok(Traces {
+        files,
+        takes_late: options.get_flag("late"),
+    })
+}
+
 // Returns the task that these words ask for, or an error if memory is lacking.
 fn task_of(rt: &HostRuntime, words: &[String]) -> Result<Task, Error> {
     let matches = match command(rt.alloc())?.try_get_matches_from(words) {
@@ -81,6 +104,7 @@ fn task_of(rt: &HostRuntime, words: &[String]) -> Result<Task, Error> {
     match matches.subcommand() {
         Some(("script", _)) => Ok(Task::Script),
         Some(("explain", _)) => Ok(Task::Explain),
+        Some(("check", options)) => Ok(Task::Check(read_traces(rt.alloc(), options)?)),
         Some(("serve", options)) => Ok(Task::Serve(read_service(rt.alloc(), options)?)),
         _ => Ok(Task::End(ExitCode::from(USAGE))),
     }

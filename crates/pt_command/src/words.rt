@@ -9,6 +9,12 @@ const SCRIPT: &str = "Answers the lines of standard input on standard output, ea
 
 const EXPLAIN: &str = "Shows what each line of a script added to the history, with its answers";
 
+const CHECK: &str = "Says whether the answers in traces are those that the rules give";
+
+const FILE: &str = "A trace; without one, standard input is read";
+
+const LATE: &str = "Also take an answer after a later line, but before its client's next line";
+
 const SERVE: &str = "Serves a Unix socket: each connection is a client, and its lines are calls";
 
 const SOCKET: &str = "The path of the socket: no file may exist there yet, and it is not removed";
@@ -106,6 +112,27 @@ Status: 0 done, whatever was answered; 2 a wrong command line; 3 reading or writ
 
   ptserver explain < examples/two-clients.script";
 
+const TRACES: &str = "\
+A trace is a script with the answers that an implementation gave. Each row of it is one of these:
+
+  > B 2 EBUSY                    an answer that was seen; the word ? agrees with any answer
+  # or a space, or nothing       a remark
+  < text                         the line `text`, which may begin as any other row
+  <                              a line of more than 128 bytes
+  A lock m                       any other row is a line of a script
+
+It agrees if the answers between each line and the next are those that `ptserver script` gives to
+that line, in any order. Otherwise each difference is written: the line, the entries that it adds to
+the history, and the answers, where `-` marks one that is due and `+` one that was seen in its
+place. After a difference of two words that change nothing it goes on, and else it stops.
+
+Status: 0 all agree; 2 a wrong command line; 3 reading or writing failed; 5 out of memory; 6 one
+differs; 7 one has a row that begins with `> ` and is not an answer to a line before it.
+
+`ptserver explain` writes traces. To try it:
+
+  ptserver explain < examples/two-clients.script | ptserver check";
+
 // Returns an option with its name, what its value is called, and what it is for.
 fn option<'a>(alloc: Global, name: &'a str, value: &'a str, help: &'a str) -> Arg<'a> {
     Arg::new(alloc, name)
@@ -137,18 +164,39 @@ fn word<'a>(alloc: Global, name: &'a str, about: &'a str, more: &'a str) -> Comm
     Command::new(alloc, name).about(about).after_help(more)
 }
 
+fn files<'a>(alloc: Global) -> Arg<'a> {
+    Arg::new(alloc, "FILE")
+        .num_args(0..)
+        .action(ArgAction::Append)
+        .help(FILE)
+}
+
+fn late<'a>(alloc: Global) -> Arg<'a> {
+    Arg::new(alloc, "late")
+        .long("late")
+        .action(ArgAction::SetTrue)
+        .help(LATE)
+}
+
+// Returns the word `check` with its option and files.
+fn check<'a>(alloc: Global) -> Result<Command<'a>, Error> {
+    let args = Vec::from_array(alloc, [late(alloc), files(alloc)])?;
+    Ok(word(alloc, "check", CHECK, TRACES).args(args)?)
+}
+
 // Returns the word `serve` with its options.
 fn serve<'a>(alloc: Global) -> Result<Command<'a>, Error> {
     let options = Vec::from_array(alloc, [socket(alloc), clock(alloc), sessions(alloc)])?;
     Ok(word(alloc, "serve", SERVE, CONNECTIONS).args(options)?)
 }
 
-/// Returns the command line: `script`, `explain`, `serve`, `--help` and `--version`.
+/// Returns the command line: `script`, `explain`, `check`, `serve`, `--help` and `--version`.
 pub fn command<'a>(alloc: Global) -> Result<Command<'a>, Error> {
     let serve = serve(alloc)?;
+    let check = check(alloc)?;
     let script = word(alloc, "script", SCRIPT, LINES);
     let explain = word(alloc, "explain", EXPLAIN, ENTRIES);
-    let words = Vec::from_array(alloc, [script, explain, serve])?;
+    let words = Vec::from_array(alloc, [script, explain, check, serve])?;
     let program = word(alloc, "ptserver", ABOUT, LINES)
         .version("0.1.0")
         .subcommand_required(true);

@@ -7,6 +7,9 @@
 //! for a server. The words of the command line are those of `pt_command`.
 #![tactic(auto)]
 
+mod checking;
+
+use checking::run_check;
 use pt_command::{ClockWord, Task, read_task};
 use pt_core::Core;
 use pt_explain::explain;
@@ -68,6 +71,7 @@ fn main(rt: HostRuntime) -> ExitCode {
     match read_task(&rt) {
         Task::Script => run_script(&rt),
         Task::Explain => run_explain(&rt),
+        Task::Check(traces) => run_check(&rt, &traces),
         Task::Serve(service) => {
             let Ok(core) = Core::with_limit(rt.alloc(), ENTRIES_BETWEEN_SEALS) else {
                 return end_of(&rt, Err(ServeFault::Memory));

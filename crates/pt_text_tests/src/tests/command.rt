@@ -13,15 +13,19 @@ fn exit_of(alloc: Global, words: &[&str]) -> Result<i32, Fail> {
 
 // Returns true if these words give the exit statuses of the table.
 fn are_statuses_told(alloc: Global) -> Result<bool, Fail> {
-    let table: [(&[&str], i32); 8] = [
+    let table: [(&[&str], i32); 12] = [
         (&["ptserver", "script"], 0),
         (&["ptserver", "explain"], 0),
+        (&["ptserver", "check"], 0),
+        (&["ptserver", "check", "one", "two"], 0),
+        (&["ptserver", "check", "--late", "one"], 0),
         (&["ptserver", "--help"], 0),
         (&["ptserver", "--version"], 0),
         (&["ptserver"], 2),
         (&["ptserver", "serves"], 2),
         (&["ptserver", "script", "more"], 2),
         (&["ptserver", "explain", "more"], 2),
+        (&["ptserver", "check", "--later"], 2),
     ];
     for (words, status) in table {
         if exit_of(alloc, words)? != status {

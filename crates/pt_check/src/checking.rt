@@ -1,0 +1,82 @@
+ghost use Rattle.std.specs.Prelude.{◌≡◌, ◌<◌, ◌^◌, [], length, false, None, OnOk, IfOk, IfErr};
+ghost use Rattle.pt_model.specs.Starts.{nothing};
+ghost use Rattle.pt_legal.specs.Cores.{shown};
+ghost use Rattle.pt_engine.specs.Scripts.{begun, entries_between_seals};
+ghost use Rattle.pt_engine.specs.Engines.{known_by};
+ghost use Rattle.pt_traces.specs.Rows.{rows};
+ghost use Rattle.pt_traces.specs.Blocks.{blocks, first_wrong};
+ghost use Rattle.pt_check.specs.Agreements.{Compares, Finds, IsFaultOf};
+
+use crate::answered::is_answered;
+use crate::due::answer_line;
+use crate::fault::CheckFault;
+use crate::found::Found;
+use pt_engine::Engine;
+use pt_legal::LegalHistory;
+use pt_traces::{Block, Blocks, wrong_row};
+use std::alloc::Allocator;
+
+// Returns whether the answers in a block are those that are due to its line.
+fn agrees<C: LegalHistory, A: Allocator + Copy>(
+    engine: &mut Engine<C, A>,
+    alloc: A,
+    block: &Block<'_>,
+) -> Result<bool, CheckFault>
+    requires { length engine.old.seen < 2 ^ 53 }
+    ensures ok { IfOk result (λ same. Compares (known_by engine.old) block.now
+        (known_by engine.new) same) }
+    ensures why { IfErr result (λ fault. fault ≡ CheckFault.Memory) }
+{
+    let due = answer_line(engine, alloc, block.line())?;
+    Ok(is_answered(&due, block))
+}
+
+// Finds the first block whose answers are not those that are due, if there is one.
+fn find<C: LegalHistory, A: Allocator + Copy>(
+    engine: &mut Engine<C, A>,
+    alloc: A,
+    mut blocks: Blocks<'_>,
+) -> Result<Found, CheckFault>
+    requires new { known_by engine.old ≡ begun }
+    requires few { length blocks < 2 ^ 53 }
+    ensures ok { IfOk result (λ found. Finds found begun blocks.entry) }
+    ensures why { IfErr result (λ fault. fault ≡ CheckFault.Memory) }
+{
+    let mut at = 0;
+    while let Some(block) = blocks.next() {
+        let same = agrees(engine, alloc, &block)?;
+        if !same {
+            return Ok(Found::Differs(at));
+        }
+        at += 1;
+    }
+    Ok(Found::Agrees)
+}
+
+/// Checks a trace against the rules, with an empty core.  [profile]
+///
+/// It agrees if the answers that were seen after each line, and before the next, are exactly those
+/// that the rules give to that line, in any order; the word `?` agrees with any. Otherwise the
+/// first line is found at which it differs. Returns the first row that should be an answer and is
+/// none, if there is one, before anything is compared; or `Memory` if a growth was refused.
+pub fn check<C: LegalHistory, A: Allocator + Copy>(
+    core: C,
+    alloc: A,
+    trace: &[u8],
+) -> Result<Found, CheckFault>
+    requires empty { shown (C.seen core)
+        ≡ record { start = nothing; entries = []; limit = entries_between_seals } }
+    requires few { length trace.now < 2 ^ 53 }
+    ensures ok { IfOk result (λ found. Finds found begun (blocks (rows trace.now))) }
+    ensures whole { OnOk result (first_wrong false 1 (rows trace.now) ≡ None) }
+    ensures why { IfErr result (IsFaultOf trace.now) }
+{
+    match wrong_row(trace) {
+        Some(row) => Err(CheckFault::NotAnswer(row)),
+        None => {
+            let mut engine = Engine::new(core, alloc);
+            let blocks = Blocks::new(trace);
+            find(&mut engine, alloc, blocks)
+        }
+    }
+}
