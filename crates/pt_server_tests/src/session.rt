@@ -1,3 +1,4 @@
 mod memory;
 mod remains;
+mod sides;
 mod threads;
