@@ -8,3 +8,5 @@ pub mod RwlockRules
 pub mod CondRules
 -- ObjectRules: the lines of the tables of making and destroying objects
 pub mod ObjectRules
+-- CallRules: the line of all tables that applies to a call, as it is read off the history
+pub mod CallRules

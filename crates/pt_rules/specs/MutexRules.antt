@@ -1,11 +1,14 @@
 -- MutexRules: the lines of the tables of mutexes, in the order of docs/RULES.md.
-use Rattle.std.specs.Prelude.{◌≡◌, ℕ, not, ◌&&◌, List, [], ◌∷◌, Bool, is_none, nat_lt}
+use Rattle.std.specs.Prelude.{◌≡◌, ℕ, not, ◌&&◌, List, [], ◌∷◌, Bool, true, false, is_none}
+use Rattle.std.specs.Prelude.{nat_lt}
 use Rattle.pt_types.specs.Limits.{most_locks}
 use Rattle.pt_types.specs.Times.{has_bad_deadline}
 use Rattle.pt_types.specs.Operations.{is_try, deadline_of}
 use Rattle.pt_types.specs.MutexTable.{is_lost, owns, is_recursive, is_errorcheck, is_inconsistent}
 use Rattle.pt_types.specs.MutexTable.{consistent_verdict, lock_verdict, unlock_verdict}
 use Rattle.pt_types.specs.declared.call.How.{How}
+use Rattle.pt_types.specs.declared.call.MutexKind.{MutexKind}
+use Rattle.pt_types.specs.declared.call.MutexKind.TheVariants.{Normal}
 use Rattle.pt_types.specs.declared.views.MutexView.{MutexView}
 use Rattle.pt_types.specs.declared.outcome.Outcome.TheVariants.{Done, Eagain, Ebusy, Edeadlk}
 use Rattle.pt_types.specs.declared.outcome.Outcome.TheVariants.{Einval, Eperm}
@@ -14,7 +17,8 @@ use Rattle.pt_types.specs.declared.outcome.Verdict.TheVariants.{Reply, Stands}
 use Rattle.pt_rules.specs.Tables.{first_that_applies}
 use Rattle.pt_rules.specs.declared.mutex.LockRule.{LockRule}
 use Rattle.pt_rules.specs.declared.mutex.LockRule.TheVariants.{Lost, Free, Relocked, TooOften}
-use Rattle.pt_rules.specs.declared.mutex.LockRule.TheVariants.{Tried, Deadlocks, BadTime, Waits}
+use Rattle.pt_rules.specs.declared.mutex.LockRule.TheVariants.{Tried, Deadlocks, BadTime}
+use Rattle.pt_rules.specs.declared.mutex.LockRule.TheVariants.{Relocks, Waits}
 use Rattle.pt_rules.specs.declared.mutex.UnlockRule.{UnlockRule}
 use Rattle.pt_rules.specs.declared.mutex.UnlockRule.TheVariants as unlock
 use Rattle.pt_rules.specs.declared.mutex.ConsistentRule.{ConsistentRule}
@@ -31,6 +35,7 @@ lock_lines m c how =
     ∷ (is_try how, Tried)
     ∷ (owns m c && is_errorcheck m.kind, Deadlocks)
     ∷ (has_bad_deadline (deadline_of how), BadTime)
+    ∷ (owns m c, Relocks)
     ∷ []
 
 -- the line that applies to a call for a mutex  [XSH pthread_mutex_lock]
@@ -46,6 +51,7 @@ said_by_lock_rule TooOften = Reply Eagain
 said_by_lock_rule Tried = Reply Ebusy
 said_by_lock_rule Deadlocks = Reply Edeadlk
 said_by_lock_rule BadTime = Reply Einval
+said_by_lock_rule Relocks = Stands
 said_by_lock_rule Waits = Stands
 
 -- Lock rules: the verdict of a call for a mutex is what the first line that applies says.
@@ -54,9 +60,24 @@ LockRules =
     (m : MutexView) (c : ℕ) (how : How)
     → lock_verdict m c how ≡ said_by_lock_rule (lock_rule m c how)
 
--- the table of `unlock`, without its last line  [XSH pthread_mutex_unlock]
+-- whether a kind is NORMAL
+abbrev pub is_normal : MutexKind → Bool
+is_normal Normal = true
+is_normal _ = false
+
+-- whether the page leaves open what an unlock by another client than the owner does
+-- [XSH pthread_mutex_unlock]
+abbrev pub is_open : MutexView → Bool
+is_open m = is_normal m.kind && not m.robust
+
+-- the table of `unlock`, without its last line; the first is profile  [XSH pthread_mutex_unlock]
 abbrev pub unlock_lines : MutexView → (caller : ℕ) → List (Bool × UnlockRule)
-unlock_lines m c = (not (owns m c), unlock.NotOwner) ∷ []
+unlock_lines m c =
+    (not (owns m c) && is_open m, unlock.Undefined)
+    ∷ (not (owns m c), unlock.NotOwner)
+    ∷ (nat_lt 1 m.count, unlock.Counts)
+    ∷ (is_inconsistent m.consistency, unlock.Loses)
+    ∷ []
 
 -- the line that applies to `unlock`  [XSH pthread_mutex_unlock]
 abbrev pub unlock_rule : MutexView → (caller : ℕ) → UnlockRule
@@ -64,7 +85,10 @@ unlock_rule m c = first_that_applies (unlock_lines m c) unlock.GivesBack
 
 -- what that line says becomes of the call
 abbrev pub said_by_unlock_rule : UnlockRule → Verdict
+said_by_unlock_rule unlock.Undefined = Reply Eperm
 said_by_unlock_rule unlock.NotOwner = Reply Eperm
+said_by_unlock_rule unlock.Counts = Reply Done
+said_by_unlock_rule unlock.Loses = Reply Done
 said_by_unlock_rule unlock.GivesBack = Reply Done
 
 -- Unlock rules: the verdict of `unlock` is what the first line that applies says.
@@ -75,7 +99,8 @@ UnlockRules =
 -- the table of `consistent`, without its last line  [XSH pthread_mutex_consistent]
 abbrev pub consistent_lines : MutexView → (caller : ℕ) → List (Bool × ConsistentRule)
 consistent_lines m c =
-    (not (m.robust && is_inconsistent m.consistency), consistent.NotInconsistent)
+    (not m.robust, consistent.NotRobust)
+    ∷ (not (is_inconsistent m.consistency), consistent.NotInconsistent)
     ∷ (not (owns m c), consistent.NotOwner)
     ∷ []
 
@@ -85,6 +110,7 @@ consistent_rule m c = first_that_applies (consistent_lines m c) consistent.Resto
 
 -- what that line says becomes of the call
 abbrev pub said_by_consistent_rule : ConsistentRule → Verdict
+said_by_consistent_rule consistent.NotRobust = Reply Einval
 said_by_consistent_rule consistent.NotInconsistent = Reply Einval
 said_by_consistent_rule consistent.NotOwner = Reply Eperm
 said_by_consistent_rule consistent.Restores = Reply Done

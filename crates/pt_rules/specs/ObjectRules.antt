@@ -1,22 +1,30 @@
 -- ObjectRules: the lines of the tables of making and destroying objects, in the order of
 -- docs/RULES.md.
-use Rattle.std.specs.Prelude.{◌≡◌, ℕ, List, [], ◌∷◌, Bool, nat_le}
+use Rattle.std.specs.Prelude.{◌≡◌, ℕ, ◌==◌, List, [], ◌∷◌, Bool, false, nat_le}
 use Rattle.pt_types.specs.Limits.{most_objects}
 use Rattle.pt_types.specs.ObjectTable.{destroy_verdict, init_verdict, is_bad_kind}
 use Rattle.pt_types.specs.declared.call.ObjectKind.{ObjectKind}
+use Rattle.pt_types.specs.declared.call.ObjectKind.TheVariants.{Barrier}
 use Rattle.pt_types.specs.declared.outcome.Outcome.TheVariants.{Done, Eagain, Ebusy, Einval}
 use Rattle.pt_types.specs.declared.outcome.Verdict.{Verdict}
 use Rattle.pt_types.specs.declared.outcome.Verdict.TheVariants.{Reply}
 use Rattle.pt_rules.specs.Tables.{first_that_applies}
 use Rattle.pt_rules.specs.declared.object.InitRule.{InitRule}
-use Rattle.pt_rules.specs.declared.object.InitRule.TheVariants.{BadCount, NameInUse, TooMany, Makes}
+use Rattle.pt_rules.specs.declared.object.InitRule.TheVariants.{NoCount, BadCount, NameInUse}
+use Rattle.pt_rules.specs.declared.object.InitRule.TheVariants.{TooMany, Makes}
 use Rattle.pt_rules.specs.declared.object.DestroyRule.{DestroyRule}
 use Rattle.pt_rules.specs.declared.object.DestroyRule.TheVariants.{Busy, Ends}
+
+-- whether a kind is that of a barrier whose count is 0  [XSH pthread_barrier_init]
+abbrev pub is_empty_barrier : ObjectKind → Bool
+is_empty_barrier (Barrier count) = count == 0
+is_empty_barrier _ = false
 
 -- the table of the init calls, without its last line  [XSH pthread_mutex_init]
 abbrev pub init_lines : ObjectKind → (in_use : Bool) → (objects : ℕ) → List (Bool × InitRule)
 init_lines kind in_use objects =
-    (is_bad_kind kind, BadCount)
+    (is_empty_barrier kind, NoCount)
+    ∷ (is_bad_kind kind, BadCount)
     ∷ (in_use, NameInUse)
     ∷ (nat_le most_objects objects, TooMany)
     ∷ []
@@ -27,6 +35,7 @@ init_rule kind in_use objects = first_that_applies (init_lines kind in_use objec
 
 -- what that line says becomes of the call
 abbrev pub said_by_init_rule : InitRule → Verdict
+said_by_init_rule NoCount = Reply Einval
 said_by_init_rule BadCount = Reply Einval
 said_by_init_rule NameInUse = Reply Ebusy
 said_by_init_rule TooMany = Reply Eagain

@@ -12,19 +12,20 @@ use Rattle.pt_types.specs.declared.outcome.Verdict.{Verdict}
 use Rattle.pt_types.specs.declared.outcome.Verdict.TheVariants.{Reply, Stands}
 use Rattle.pt_rules.specs.Tables.{first_that_applies}
 use Rattle.pt_rules.specs.declared.rwlock.ReadRule.{ReadRule}
-use Rattle.pt_rules.specs.declared.rwlock.ReadRule.TheVariants.{Writes, TooOften, Rereads, Admitted}
-use Rattle.pt_rules.specs.declared.rwlock.ReadRule.TheVariants.{Tried, BadTime, Waits}
+use Rattle.pt_rules.specs.declared.rwlock.ReadRule.TheVariants.{Writes, TooOften, Passes, Rereads}
+use Rattle.pt_rules.specs.declared.rwlock.ReadRule.TheVariants.{Admitted, Tried, BadTime, Waits}
 use Rattle.pt_rules.specs.declared.rwlock.WriteRule.{WriteRule}
 use Rattle.pt_rules.specs.declared.rwlock.WriteRule.TheVariants as write
 use Rattle.pt_rules.specs.declared.rwlock.RwunlockRule.{RwunlockRule}
 use Rattle.pt_rules.specs.declared.rwlock.RwunlockRule.TheVariants as rwunlock
 
--- the table of the `rdlock` calls, without its last line; the third is a deviation
+-- the table of the `rdlock` calls, without its last line; the line Passes is the deviation
 -- [XSH pthread_rwlock_rdlock]
 abbrev pub read_lines : RwlockView → (blocked : Bool) → How → List (Bool × ReadRule)
 read_lines r blocked how =
     (r.writes, Writes)
     ∷ (nat_le most_reads r.reads, TooOften)
+    ∷ (nat_lt 0 r.reads && blocked, Passes)
     ∷ (nat_lt 0 r.reads, Rereads)
     ∷ (not r.is_written && not blocked, Admitted)
     ∷ (is_try how, Tried)
@@ -39,6 +40,7 @@ read_rule r blocked how = first_that_applies (read_lines r blocked how) Waits
 abbrev pub said_by_read_rule : How → ReadRule → Verdict
 said_by_read_rule how Writes = Reply (relock_outcome (is_try how))
 said_by_read_rule how TooOften = Reply Eagain
+said_by_read_rule how Passes = Stands
 said_by_read_rule how Rereads = Stands
 said_by_read_rule how Admitted = Stands
 said_by_read_rule how Tried = Reply Ebusy

@@ -1,5 +1,6 @@
 //! The laws of the rules. Each function has an empty body: its contract is the law.
 
+ghost use Rattle.pt_rules.specs.CallRules.{CallRules};
 ghost use Rattle.pt_rules.specs.CondRules.{WaitRules};
 ghost use Rattle.pt_rules.specs.MutexRules.{ConsistentRules, LockRules, UnlockRules};
 ghost use Rattle.pt_rules.specs.ObjectRules.{DestroyRules, InitRules};
@@ -57,4 +58,10 @@ pub fn law_init_rules()
 #[tactic(auto, using(crate::proofs::Lines::destroy_rules))]
 pub fn law_destroy_rules()
     ensures { DestroyRules }
+{}
+
+/// The verdict of a client's call is what its rule says.
+#[tactic(auto, using(crate::proofs::CallLines::call_rules))]
+pub fn law_call_rules()
+    ensures { CallRules }
 {}

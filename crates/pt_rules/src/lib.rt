@@ -5,15 +5,17 @@
 //! that the table's verdict is what that line says.
 #![tactic(auto)]
 
+mod call;
 mod cond;
 mod laws;
 mod mutex;
 mod object;
 mod rwlock;
 
-pub use cond::{WaitRule, wait_rule};
+pub use call::{CallRule, call_rule};
+pub use cond::{WaitRule, WakeRule, wait_rule, wake_rule};
 pub use laws::{
-    law_consistent_rules, law_destroy_rules, law_init_rules, law_lock_rules, law_read_rules,
+    law_call_rules, law_consistent_rules, law_destroy_rules, law_init_rules, law_lock_rules, law_read_rules,
     law_rwunlock_rules, law_unlock_rules, law_wait_rules, law_write_rules,
 };
 pub use mutex::{ConsistentRule, LockRule, UnlockRule, consistent_rule, lock_rule, unlock_rule};

@@ -1,5 +1,5 @@
 ghost use Rattle.std.specs.Prelude.{◌≡◌};
-ghost use Rattle.pt_rules.specs.MutexRules.{consistent_rule as consistent_line};
+ghost use Rattle.pt_rules.specs.MutexRules.{consistent_rule as consistent_line, is_open};
 ghost use Rattle.pt_rules.specs.MutexRules.{lock_rule as lock_line, unlock_rule as unlock_line};
 
 use pt_types::views::MutexView;
@@ -22,6 +22,8 @@ pub enum LockRule {
     Deadlocks,
     /// The nanoseconds are a second or more.
     BadTime,
+    /// The caller owns the mutex, and waits for itself.
+    Relocks,
     Waits,
 }
 
@@ -45,6 +47,7 @@ pub fn lock_rule(m: &MutexView, c: ClientId, how: &How) -> LockRule
     } else {
         match how {
             How::Timed(due) if due.is_bad() => LockRule::BadTime,
+            _ if owns => LockRule::Relocks,
             _ => LockRule::Waits,
         }
     }
@@ -53,8 +56,14 @@ pub fn lock_rule(m: &MutexView, c: ClientId, how: &How) -> LockRule
 /// The line of the table of `unlock` that applies.  [XSH pthread_mutex_unlock]
 #[derive(Clone, Copy, PartialEq, Eq)]
 pub enum UnlockRule {
+    /// The caller does not own the mutex, which is NORMAL and stalled: the page leaves it open.
+    Undefined,
     /// The caller does not own the mutex.
     NotOwner,
+    /// The count falls, and the caller owns the mutex still.
+    Counts,
+    /// The mutex was inconsistent, and is not recoverable now.
+    Loses,
     GivesBack,
 }
 
@@ -62,17 +71,31 @@ pub enum UnlockRule {
 pub fn unlock_rule(m: &MutexView, c: ClientId) -> UnlockRule
     ensures { result ≡ unlock_line m.now c }
 {
-    if m.owner == Some(c) {
-        UnlockRule::GivesBack
-    } else {
+    let owns = m.owner == Some(c);
+    if !owns && is_open_case(m) {
+        UnlockRule::Undefined
+    } else if !owns {
         UnlockRule::NotOwner
+    } else if m.count > 1 {
+        UnlockRule::Counts
+    } else if matches!(m.consistency, Consistency::Inconsistent) {
+        UnlockRule::Loses
+    } else {
+        UnlockRule::GivesBack
     }
+}
+
+// Returns whether the page leaves open what an unlock by another client than the owner does.
+fn is_open_case(m: &MutexView) -> bool
+    ensures { result ≡ is_open m.now }
+{
+    matches!(m.kind, MutexKind::Normal) && !m.robust
 }
 
 /// The line of the table of `consistent` that applies.  [XSH pthread_mutex_consistent]
 #[derive(Clone, Copy, PartialEq, Eq)]
 pub enum ConsistentRule {
-    /// The mutex is not robust, or not inconsistent.
+    NotRobust,
     NotInconsistent,
     /// The caller does not own the mutex.
     NotOwner,
@@ -83,8 +106,9 @@ pub enum ConsistentRule {
 pub fn consistent_rule(m: &MutexView, c: ClientId) -> ConsistentRule
     ensures { result ≡ consistent_line m.now c }
 {
-    let is_inconsistent = matches!(m.consistency, Consistency::Inconsistent);
-    if !(m.robust && is_inconsistent) {
+    if !m.robust {
+        ConsistentRule::NotRobust
+    } else if !matches!(m.consistency, Consistency::Inconsistent) {
         ConsistentRule::NotInconsistent
     } else if m.owner != Some(c) {
         ConsistentRule::NotOwner

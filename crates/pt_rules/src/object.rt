@@ -1,13 +1,16 @@
 ghost use Rattle.std.specs.Prelude.{◌≡◌};
 ghost use Rattle.pt_types.specs.ObjectTable.{is_bad_kind};
 ghost use Rattle.pt_rules.specs.ObjectRules.{destroy_rule as destroy_line, init_rule as init_line};
+ghost use Rattle.pt_rules.specs.ObjectRules.{is_empty_barrier};
 
 use pt_types::{MOST_AT_BARRIER, MOST_OBJECTS, ObjectKind};
 
 /// The line of the table of the init calls that applies.  [XSH pthread_mutex_init]
 #[derive(Clone, Copy, PartialEq, Eq)]
 pub enum InitRule {
-    /// The count of a barrier is not from 1 to 1,024.
+    /// The count of a barrier is 0.
+    NoCount,
+    /// The count of a barrier is above 1,024.
     BadCount,
     /// An object has the name.
     NameInUse,
@@ -16,6 +19,17 @@ pub enum InitRule {
     Makes,
 }
 
+// Returns whether a kind is that of a barrier whose count is 0.
+fn has_no_count(kind: &ObjectKind) -> bool
+    ensures { result ≡ is_empty_barrier kind.now }
+{
+    match kind {
+        ObjectKind::Barrier(count) => *count == 0,
+        _ => false,
+    }
+}
+
+// Returns whether a kind is that of a barrier whose count is not from 1 to 1,024.
 fn is_bad_count(kind: &ObjectKind) -> bool
     ensures { result ≡ is_bad_kind kind.now }
 {
@@ -29,7 +43,9 @@ fn is_bad_count(kind: &ObjectKind) -> bool
 pub fn init_rule(kind: &ObjectKind, in_use: bool, objects: usize) -> InitRule
     ensures { result ≡ init_line kind.now in_use objects }
 {
-    if is_bad_count(kind) {
+    if has_no_count(kind) {
+        InitRule::NoCount
+    } else if is_bad_count(kind) {
         InitRule::BadCount
     } else if in_use {
         InitRule::NameInUse

@@ -12,7 +12,9 @@ pub enum ReadRule {
     Writes,
     /// The caller has the greatest number of read locks.
     TooOften,
-    /// The caller holds a read lock: a deviation, if writers wait.
+    /// The caller holds a read lock, and passes the writers that wait: the deviation.
+    Passes,
+    /// The caller holds a read lock.
     Rereads,
     /// No writer holds the lock, and none of equal or higher priority waits.
     Admitted,
@@ -31,6 +33,8 @@ pub fn read_rule(r: &RwlockView, blocked: bool, how: &How) -> ReadRule
         ReadRule::Writes
     } else if r.reads >= MOST_READS as u64 {
         ReadRule::TooOften
+    } else if r.reads > 0 && blocked {
+        ReadRule::Passes
     } else if r.reads > 0 {
         ReadRule::Rereads
     } else if !r.is_written && !blocked {

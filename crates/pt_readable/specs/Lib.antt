@@ -1,0 +1,2 @@
+-- Reading: what is read of the objects that names mean
+pub mod Reading

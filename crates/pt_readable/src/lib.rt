@@ -1,0 +1,7 @@
+//! What an explanation reads of a core, besides its entries and answers: a trait, and the
+//! definitions of what is read.
+#![tactic(auto)]
+
+mod readable_history;
+
+pub use readable_history::ReadableHistory;
