@@ -112,6 +112,7 @@ read_rules r blocked how =
         ∷ (is_try how, Reply Ebusy)
         ∷ (has_bad_deadline (deadline_of how), Reply Einval)
         ∷ []
+
     go : (writes full : Bool)
         → decide ((writes, Reply (relock_outcome (is_try how))) ∷ (full, Reply Eagain)
         ∷ (nat_lt 0 r.reads, Stands) ∷ rest) Stands
@@ -152,11 +153,13 @@ init_rules kind in_use objects =
   where
     rest : List (Bool × Verdict)
     rest = (in_use, Reply Ebusy) ∷ (nat_le most_objects objects, Reply Eagain) ∷ []
+
     early : (none bad : Bool)
         → decide ((none || bad, Reply Einval) ∷ rest) (Reply Done)
         ≡ decide ((none, Reply Einval) ∷ (none || bad, Reply Einval) ∷ rest) (Reply Done)
     early true bad = refl
     early false bad = refl
+
     first : (k : ObjectKind)
         → decide ((is_bad_kind k, Reply Einval) ∷ rest) (Reply Done)
         ≡ decide ((is_empty_barrier k, Reply Einval) ∷ (is_bad_kind k, Reply Einval) ∷ rest)

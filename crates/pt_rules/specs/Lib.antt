@@ -10,3 +10,9 @@ pub mod CondRules
 pub mod ObjectRules
 -- CallRules: the line of all tables that applies to a call, as it is read off the history
 pub mod CallRules
+-- Pages: the page of XSH that a call is on
+pub mod Pages
+-- Reasons: the words of each rule, and its source
+pub mod Reasons
+-- EventRules: why an entry is added, or an event refused
+pub mod EventRules
