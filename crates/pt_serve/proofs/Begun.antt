@@ -3,11 +3,11 @@ use Rattle.std.specs.Prelude.{Result, Ok, Err, OnOk, OnErr, IfOk, IfErr}
 use Rattle.std.specs.Result.{IsErrAnd}
 use Rattle.std.proofs.Common.{◌≡◌, ℕ, ◌-◌, ◌≤◌, List, [], ◌++◌, length, take, drop}
 use Rattle.std.proofs.Common.{append_assoc, append-nil, sym, ap, subst, refl, ◌∙◌, arith}
-use Rattle.std.proofs.Common.{length-append, length-drop, take_all}
+use Rattle.std.proofs.Common.{length-append, length-drop, take_all, inl, inr}
 use Rattle.std.proofs.lemmas.List.{take-append-drop, take-append-le, drop-append-le}
 use Rattle.std.proofs.Math.Seq.{take-append_seam, drop-append_seam}
-use Rattle.pt_session.specs.Outputs.{IsCutShort}
-use Rattle.pt_serve.specs.Served.{IsServiceBegun, closed_line, ready_line}
+use Rattle.pt_session.specs.Outputs.{IsBroken, IsCutShort, Output}
+use Rattle.pt_serve.specs.Served.{IsReported, IsServiceBegun, closed_line, ready_line}
 
 -- the bytes by which a text grew, and those that remain
 pub begun : (old bytes text rest : List ℕ) → text ++ rest ≡ old ++ bytes
@@ -112,3 +112,11 @@ pub no_good : {T E : Type 0} (r : Result T E) (e : E) (P : T → Type 0) → IsE
     → IfOk r P
 no_good (Ok x) e P told = absurd told
 no_good (Err f) e P told = tt
+
+-- a line is written and flushed, or the writer broke
+pub reported : {T E F R : Type 0} (r : Result T E) (old line : List ℕ) (o : Output)
+    → OnOk r ((o.taken ≡ old ++ line) × (o.flushed ≡ o.taken) × F × R)
+    → IsCutShort old line o.taken → OnErr r (IsBroken o.failures o.rejections)
+    → IsReported old line o
+reported (Ok x) old line o told begun broke = inl (told.0, told.1 ∙ told.0)
+reported (Err e) old line o told begun broke = inr (begun, broke)

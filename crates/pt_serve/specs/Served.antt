@@ -1,6 +1,6 @@
 -- Served: what a server writes.
-use Rattle.std.specs.Prelude.{ℕ, ◌++◌, List, [], ◌∷◌, codes, decimal}
-use Rattle.pt_session.specs.Outputs.{IsCutShort}
+use Rattle.std.specs.Prelude.{ℕ, ◌≡◌, ◌⊎◌, ◌++◌, List, [], ◌∷◌, codes, decimal}
+use Rattle.pt_session.specs.Outputs.{IsBroken, IsCutShort, Output}
 
 -- the line that says that connections are accepted  [profile]
 abbrev pub ready_line : List ℕ
@@ -14,3 +14,10 @@ closed_line outer = codes "closed " ++ decimal outer ++ 10 ∷ []
 pub record IsServiceBegun (old taken : List ℕ) : Type 0 where
   pub outer : ℕ
   pub begun : IsCutShort old (ready_line ++ closed_line outer) taken
+
+-- the line was written after the old text, and all is flushed; or the writer broke, and a first
+-- part of the line was taken
+abbrev pub IsReported : List ℕ → List ℕ → Output → Type 0
+IsReported old line o =
+    ((o.taken ≡ old ++ line) × (o.flushed ≡ old ++ line))
+    ⊎ (IsCutShort old line o.taken × IsBroken o.failures o.rejections)
