@@ -18,65 +18,6 @@ const ROUNDS: u32 = 20;
 
 const SESSIONS: u64 = 80;
 
-// What a client of a server does.
-#[derive(Clone, Copy)]
-enum Act {
-    // Sends these lines, if any, and must hear these answers.
-    Talk(&'static [u8], &'static [u8]),
-    // Sleeps for this number of milliseconds.
-    Sleep(u64),
-    Die,
-}
-
-use Act::{Die, Sleep, Talk};
-
-// A client's number, and what it does.
-type Step = (usize, Act);
-
-// Does what a client does. Returns false if it hears something else, or if there is no such client.
-fn perform<R: Clock>(
-    rt: &R,
-    alloc: Global,
-    client: &mut Option<Client>,
-    act: Act,
-) -> io::Result<bool> {
-    match (act, client) {
-        (Talk(lines, answers), Some(client)) => {
-            client.send(lines)?;
-            client.hears(alloc, answers)
-        }
-        (Sleep(millis), _) => {
-            thread::sleep(rt, Duration::from_millis(millis));
-            Ok(true)
-        }
-        (Die, client) => Ok(client.take().is_some()),
-        (Talk(..), None) => Ok(false),
-    }
-}
-
-// Connects this number of clients, and lets them do what the steps say. Returns true if all answers
-// are right.
-fn follow<R: Files + Net + Clock>(
-    rt: &R,
-    alloc: Global,
-    path: &str,
-    count: usize,
-    steps: &[Step],
-) -> io::Result<bool> {
-    let mut clients = Vec::new(alloc);
-    for _ in 0..count {
-        clients.push(Some(Client::connect(rt, path)?))?;
-    }
-    let mut is_right = true;
-    for step in steps {
-        is_right &= match clients.get_mut(step.0) {
-            Some(client) => perform(rt, alloc, client, step.1)?,
-            None => false,
-        };
-    }
-    Ok(is_right)
-}
-
 // Runs a server of this number of sessions, and returns its result and what it wrote.
 fn serve_in_memory<R: Files + Net + Threads + Wait + Clock + Sync>(
     rt: &R,
@@ -93,19 +34,19 @@ fn serve_in_memory<R: Files + Net + Threads + Wait + Clock + Sync>(
     (served, out.into_inner())
 }
 
-// One client waits for the other's mutex.
-const CONVERSATION: [Step; 4] = [
-    (
-        0,
-        Talk(
-            b"hello 10\nmutex-init m normal stalled\nlock m\n",
-            b"1 0\n2 0\n3 0\n",
-        ),
-    ),
-    (1, Talk(b"hello 10\nlock m\n", b"1 0\n")),
-    (0, Talk(b"unlock m\n", b"4 0\n")),
-    (1, Talk(b"", b"2 0\n")),
-];
+// Runs two clients, one of which waits for the other's mutex. Returns true if all answers are
+// right.
+fn converse<R: Files + Net + Clock>(rt: &R, alloc: Global, path: &str) -> io::Result<bool> {
+    let mut first = Client::connect(rt, path)?;
+    let mut second = Client::connect(rt, path)?;
+    first.send(b"hello 10\nmutex-init m normal stalled\nlock m\n")?;
+    let mut is_right = first.hears(alloc, b"1 0\n2 0\n3 0\n")?;
+    second.send(b"hello 10\nlock m\n")?;
+    first.send(b"unlock m\n")?;
+    is_right &= first.hears(alloc, b"4 0\n")?;
+    is_right &= second.hears(alloc, b"1 0\n2 0\n")?;
+    Ok(is_right)
+}
 
 #[test]
 fn serve_two(rt: HostRuntime) -> Result<(), Fail> {
@@ -113,7 +54,7 @@ fn serve_two(rt: HostRuntime) -> Result<(), Fail> {
     let ((served, out), is_right) = thread::join(
         &rt,
         || serve_in_memory(&rt, alloc, "serve_two", ClockMode::Lines, 2),
-        || follow(&rt, alloc, "serve_two", 2, &CONVERSATION),
+        || converse(&rt, alloc, "serve_two"),
     );
     assert!(rt; is_right?);
     assert!(rt;
@@ -163,42 +104,62 @@ fn path_that_exists(rt: HostRuntime) -> Result<(), Fail> {
     Ok(())
 }
 
-// A client dies that owns a mutex, and another learns of it at once.
-const OWNER_DIES: [Step; 5] = [
-    (
-        0,
-        Talk(
-            b"hello 10\nmutex-init m normal robust\nlock m\n",
-            b"1 0\n2 0\n3 0\n",
-        ),
-    ),
-    (1, Talk(b"hello 10\n", b"1 0\n")),
-    (0, Die),
-    (1, Talk(b"trylock m\n", b"2 EOWNERDEAD\n")),
-    (1, Talk(b"unlock m\nmutex-destroy m\n", b"3 0\n4 0\n")),
-];
+// Sends lines, and returns whether they are answered so.
+fn hears(client: &mut Client, alloc: Global, lines: &[u8], answers: &[u8]) -> io::Result<bool> {
+    client.send(lines)?;
+    client.hears(alloc, answers)
+}
 
-// A client dies that waits for a mutex, and does not get it after that.
-const WAITER_DIES: [Step; 6] = [
-    (
-        0,
-        Talk(
-            b"hello 10\nmutex-init m normal stalled\nlock m\n",
-            b"1 0\n2 0\n3 0\n",
-        ),
-    ),
-    (1, Talk(b"hello 10\nlock m\n", b"1 0\n")),
-    (1, Sleep(2)),
-    (1, Die),
-    (0, Talk(b"unlock m\ntrylock m\n", b"4 0\n5 0\n")),
-    (0, Talk(b"unlock m\nmutex-destroy m\n", b"6 0\n7 0\n")),
-];
+// Lets a client die that owns a mutex. Returns true if another learns of it at once.
+fn sees_owner_die<R: Files + Net + Clock>(rt: &R, alloc: Global, path: &str) -> io::Result<bool> {
+    let mut owner = Client::connect(rt, path)?;
+    let mut other = Client::connect(rt, path)?;
+    let mut is_right = hears(
+        &mut owner,
+        alloc,
+        b"hello 10\nmutex-init m normal robust\nlock m\n",
+        b"1 0\n2 0\n3 0\n",
+    )?;
+    is_right &= hears(&mut other, alloc, b"hello 10\n", b"1 0\n")?;
+    drop(owner);
+    is_right &= hears(&mut other, alloc, b"trylock m\n", b"2 EOWNERDEAD\n")?;
+    is_right &= hears(
+        &mut other,
+        alloc,
+        b"unlock m\nmutex-destroy m\n",
+        b"3 0\n4 0\n",
+    )?;
+    Ok(is_right)
+}
+
+// Lets a client die that waits for a mutex. Returns true if it does not get the mutex after that.
+fn sees_waiter_die<R: Files + Net + Clock>(rt: &R, alloc: Global, path: &str) -> io::Result<bool> {
+    let mut owner = Client::connect(rt, path)?;
+    let mut waiter = Client::connect(rt, path)?;
+    let mut is_right = hears(
+        &mut owner,
+        alloc,
+        b"hello 10\nmutex-init m normal stalled\nlock m\n",
+        b"1 0\n2 0\n3 0\n",
+    )?;
+    is_right &= hears(&mut waiter, alloc, b"hello 10\nlock m\n", b"1 0\n")?;
+    thread::sleep(rt, Duration::from_millis(2));
+    drop(waiter);
+    is_right &= hears(&mut owner, alloc, b"unlock m\ntrylock m\n", b"4 0\n5 0\n")?;
+    is_right &= hears(
+        &mut owner,
+        alloc,
+        b"unlock m\nmutex-destroy m\n",
+        b"6 0\n7 0\n",
+    )?;
+    Ok(is_right)
+}
 
 fn sees_deaths<R: Files + Net + Clock>(rt: &R, alloc: Global, path: &str) -> io::Result<bool> {
     let mut is_right = true;
     for _ in 0..ROUNDS {
-        is_right &= follow(rt, alloc, path, 2, &OWNER_DIES)?;
-        is_right &= follow(rt, alloc, path, 2, &WAITER_DIES)?;
+        is_right &= sees_owner_die(rt, alloc, path)?;
+        is_right &= sees_waiter_die(rt, alloc, path)?;
     }
     Ok(is_right)
 }
@@ -216,22 +177,26 @@ fn deaths_come_first(rt: HostRuntime) -> Result<(), Fail> {
     Ok(())
 }
 
-// The last of three clients waits for 60 milliseconds.
-const LONG_WAIT: [Step; 7] = [
-    (
-        0,
-        Talk(
-            b"hello 10\nmutex-init m normal stalled\nlock m\n",
-            b"1 0\n2 0\n3 0\n",
-        ),
-    ),
-    (1, Talk(b"hello 10\n", b"1 0\n")),
-    (2, Talk(b"hello 10\nlock m\n", b"1 0\n")),
-    (2, Sleep(60)),
-    (0, Talk(b"unlock m\n", b"4 0\n")),
-    (2, Talk(b"", b"2 0\n")),
-    (1, Talk(b"trylock m\n", b"2 EBUSY\n")),
-];
+// Runs three clients, the last of which waits for 60 milliseconds. Returns true if all answers are
+// right.
+fn waits_long<R: Files + Net + Clock>(rt: &R, alloc: Global, path: &str) -> io::Result<bool> {
+    let mut first = Client::connect(rt, path)?;
+    let mut second = Client::connect(rt, path)?;
+    let mut third = Client::connect(rt, path)?;
+    let mut is_right = hears(
+        &mut first,
+        alloc,
+        b"hello 10\nmutex-init m normal stalled\nlock m\n",
+        b"1 0\n2 0\n3 0\n",
+    )?;
+    is_right &= hears(&mut second, alloc, b"hello 10\n", b"1 0\n")?;
+    is_right &= hears(&mut third, alloc, b"hello 10\nlock m\n", b"1 0\n")?;
+    thread::sleep(rt, Duration::from_millis(60));
+    is_right &= hears(&mut first, alloc, b"unlock m\n", b"4 0\n")?;
+    is_right &= third.hears(alloc, b"2 0\n")?;
+    is_right &= hears(&mut second, alloc, b"trylock m\n", b"2 EBUSY\n")?;
+    Ok(is_right)
+}
 
 #[test]
 fn a_third_session_waits(rt: HostRuntime) -> Result<(), Fail> {
@@ -239,38 +204,42 @@ fn a_third_session_waits(rt: HostRuntime) -> Result<(), Fail> {
     let ((served, _), is_right) = thread::join(
         &rt,
         || serve_in_memory(&rt, alloc, "a_third_session_waits", ClockMode::Lines, 3),
-        || follow(&rt, alloc, "a_third_session_waits", 3, &LONG_WAIT),
+        || waits_long(&rt, alloc, "a_third_session_waits"),
     );
     assert!(rt; is_right?);
     assert!(rt; served.is_ok());
     Ok(())
 }
 
-// Deadlines of both clocks pass, while other clients have deadlines that are far away.
-const TIMEOUTS: [Step; 10] = [
-    (
-        0,
-        Talk(
-            b"hello 10\nmutex-init m normal stalled\nlock m\n",
-            b"1 0\n2 0\n3 0\n",
-        ),
-    ),
-    (1, Talk(b"hello 10\n", b"1 0\n")),
-    (2, Talk(b"hello 9\n", b"1 0\n")),
-    (1, Talk(b"timedlock m 9999999998 0\n", b"")),
-    (2, Talk(b"clocklock m mono 1000000 0\n", b"")),
-    (
-        3,
-        Talk(
-            b"hello 10\nclocklock m mono 0 100000000\ntimedlock m 1 0\nmoment 1 0\n",
-            b"1 0\n2 ETIMEDOUT\n3 ETIMEDOUT\n4 SYNTAX\n",
-        ),
-    ),
-    (0, Talk(b"unlock m\n", b"4 0\n")),
-    (1, Talk(b"", b"2 0\n")),
-    (1, Talk(b"unlock m\n", b"3 0\n")),
-    (2, Talk(b"", b"2 0\n")),
-];
+// Runs clients whose deadlines pass, of both clocks, while others have deadlines that are far away.
+// Returns true if all answers are right.
+fn times_out<R: Files + Net + Clock>(rt: &R, alloc: Global, path: &str) -> io::Result<bool> {
+    let mut owner = Client::connect(rt, path)?;
+    let mut real = Client::connect(rt, path)?;
+    let mut mono = Client::connect(rt, path)?;
+    let mut brief = Client::connect(rt, path)?;
+    let mut is_right = hears(
+        &mut owner,
+        alloc,
+        b"hello 10\nmutex-init m normal stalled\nlock m\n",
+        b"1 0\n2 0\n3 0\n",
+    )?;
+    is_right &= hears(&mut real, alloc, b"hello 10\n", b"1 0\n")?;
+    is_right &= hears(&mut mono, alloc, b"hello 9\n", b"1 0\n")?;
+    real.send(b"timedlock m 9999999998 0\n")?;
+    mono.send(b"clocklock m mono 1000000 0\n")?;
+    is_right &= hears(
+        &mut brief,
+        alloc,
+        b"hello 10\nclocklock m mono 0 100000000\ntimedlock m 1 0\nmoment 1 0\n",
+        b"1 0\n2 ETIMEDOUT\n3 ETIMEDOUT\n4 SYNTAX\n",
+    )?;
+    is_right &= hears(&mut owner, alloc, b"unlock m\n", b"4 0\n")?;
+    is_right &= real.hears(alloc, b"2 0\n")?;
+    is_right &= hears(&mut real, alloc, b"unlock m\n", b"3 0\n")?;
+    is_right &= mono.hears(alloc, b"2 0\n")?;
+    Ok(is_right)
+}
 
 #[test]
 fn clocks_of_the_system(rt: HostRuntime) -> Result<(), Fail> {
@@ -278,7 +247,7 @@ fn clocks_of_the_system(rt: HostRuntime) -> Result<(), Fail> {
     let ((served, _), is_right) = thread::join(
         &rt,
         || serve_in_memory(&rt, alloc, "clocks_of_the_system", ClockMode::System, 4),
-        || follow(&rt, alloc, "clocks_of_the_system", 4, &TIMEOUTS),
+        || times_out(&rt, alloc, "clocks_of_the_system"),
     );
     assert!(rt; is_right?);
     assert!(rt; served.is_ok());

@@ -2,9 +2,8 @@
 
 ghost use Rattle.std.specs.Prelude.{◌≡◌, ◌^◌};
 
-use super::remains::Remains;
 use crate::cores::{Shared, open};
-use pt_hub::{ClockPass, Left, SessionId};
+use pt_hub::SessionId;
 use pt_io::Counted;
 use pt_session::{ClockMode, EndCause, Gate, session};
 use pt_types::{Clock, Deadline};
@@ -19,29 +18,7 @@ use std::time::{Clock as HostClock, Duration};
 use std::{io, thread};
 
 // The most times that a waiting reader or gate looks again. It sleeps a millisecond in between.
-#[derive(Clone, Copy)]
-struct Patience {
-    reader: u32,
-    gate: u32,
-}
-
-// Enough for a session that must come to its end.
-const LONG: Patience = Patience {
-    reader: 20_000,
-    gate: 10_000,
-};
-
-// Little, for a session that may wait in vain.
-const SHORT: Patience = Patience {
-    reader: 200,
-    gate: 100,
-};
-
-// The same, for a session whose input ends at once.
-const CLOSING: Patience = Patience {
-    reader: 0,
-    gate: 100,
-};
+const TURNS: u32 = 10_000;
 
 // Counts of a session's lines: how many its gate was asked for, and how many were answered.
 #[derive(Drop)]
@@ -61,8 +38,7 @@ enum Until<'a> {
 #[derive(Drop)]
 struct Reader<'a, 'b, T> {
     rt: &'a T,
-    input: &'b [u8],
-    turns: u32,
+    input: &'static [u8],
     ends_by: &'b AtomicU64,
     ends_at: u64,
 }
@@ -72,7 +48,7 @@ impl<'a, 'b, T: HostClock> Read for Reader<'a, 'b, T> {
         let n = self.input.len().min(buf.len());
         buf[..n].copy_from_slice(&self.input[..n]);
         self.input = &self.input[n..];
-        for _ in 0..self.turns {
+        for _ in 0..TURNS {
             if n > 0 || self.ends_by.load(Ordering::SeqCst) >= self.ends_at {
                 break;
             }
@@ -107,7 +83,6 @@ struct Holding<'a, 'b, 'c, L: Ledger, T> {
     rt: &'a T,
     shared: &'b Shared<L>,
     asked: &'c AtomicU64,
-    turns: u32,
     line: u64,
     until: Until<'c>,
 }
@@ -129,7 +104,7 @@ impl<'a, 'b, 'c, L: Ledger, T: Wait + HostClock> Gate for Holding<'a, 'b, 'c, L,
         if n != self.line {
             return true;
         }
-        for _ in 0..self.turns {
+        for _ in 0..TURNS {
             if self.is_reached() {
                 return true;
             }
@@ -140,37 +115,27 @@ impl<'a, 'b, 'c, L: Ledger, T: Wait + HostClock> Gate for Holding<'a, 'b, 'c, L,
 }
 
 // What a session is given: its lines, the line that is held and until when, and when its input
-// ends.
+// ends. `text` is what it must write.
 #[derive(Clone, Copy)]
 struct Play<'a> {
-    input: &'static [u8],
-    patience: Patience,
+    input: &'static str,
     marks: &'a Marks,
     line: u64,
     until: Until<'a>,
     ends_by: &'a AtomicU64,
     ends_at: u64,
+    text: &'static str,
 }
 
-// What comes of a session: what it leaves, what it wrote, and why it ended.
-#[derive(Drop)]
-struct Ended<L: Ledger> {
-    left: Option<Left<L>>,
-    clock: ClockPass<L>,
-    text: Vec<u8>,
-    cause: EndCause,
-}
-
-fn converse<L: Ledger + Send + Sync, R: Threads + Wait + HostClock + Sync>(
+fn is_played<L: Ledger + Send + Sync, R: Threads + Wait + HostClock + Sync>(
     rt: &R,
     alloc: Global,
     shared: &Shared<L>,
     play: &Play,
-) -> Option<Ended<L>> {
+) -> bool {
     let reader = Reader {
         rt,
-        input: play.input,
-        turns: play.patience.reader,
+        input: play.input.as_bytes(),
         ends_by: play.ends_by,
         ends_at: play.ends_at,
     };
@@ -182,12 +147,11 @@ fn converse<L: Ledger + Send + Sync, R: Threads + Wait + HostClock + Sync>(
         rt,
         shared,
         asked: &play.marks.asked,
-        turns: play.patience.gate,
         line: play.line,
         until: play.until,
     };
     let (reader, writer) = (Counted::new(reader), Counted::new(writer));
-    let end = session(
+    match session(
         rt,
         alloc,
         reader,
@@ -196,28 +160,12 @@ fn converse<L: Ledger + Send + Sync, R: Threads + Wait + HostClock + Sync>(
         &gate,
         ClockMode::Lines,
         None,
-    )
-    .ok()?;
-    let Writer { answered: _, text } = end.writer.into_inner();
-    Some(Ended {
-        left: end.left,
-        clock: end.clock,
-        text,
-        cause: end.cause,
-    })
-}
-
-// What two sessions must write until their inputs end, or nothing if they may end in any way.
-type Texts = Option<(&'static str, &'static str)>;
-
-fn is_as<L: Ledger>(end: &Ended<L>, text: &str) -> bool {
-    end.cause == EndCause::InputEnded && end.text.as_slice() == text.as_bytes()
-}
-
-fn are_as<L: Ledger>(first: &Ended<L>, second: &Ended<L>, texts: Texts) -> bool {
-    match texts {
-        Some((text, other)) => is_as(first, text) && is_as(second, other),
-        None => true,
+    ) {
+        Ok(end) => {
+            end.cause == EndCause::InputEnded
+                && end.writer.device().text.as_slice() == play.text.as_bytes()
+        }
+        Err(_) => false,
     }
 }
 
@@ -227,39 +175,31 @@ fn are_played_in<L: Ledger + Send + Sync, R: Threads + Wait + HostClock + Sync>(
     blank: Blank,
     one: &Play,
     other: &Play,
-    texts: Texts,
 ) -> bool
     requires { (blank.name ≡ L.name) × (blank.parts ≡ L.parts) × (blank.parts ≡ 2 ^ 63) }
 {
-    let Some((hub, clock)) = open::<L, Global>(alloc, alloc, blank) else {
-        return false;
-    };
-    let shared = pt_session::Shared::new(hub);
-    let (first, second) = thread::join(
-        rt,
-        || converse(rt, alloc, &shared, one),
-        || converse(rt, alloc, &shared, other),
-    );
-    let (Some(first), Some(second)) = (first, second) else {
-        return false;
-    };
-    let are_as = are_as(&first, &second, texts);
-    let mut remains = Remains::new(alloc);
-    let are_added = remains.add(None, clock)
-        && remains.add(first.left, first.clock)
-        && remains.add(second.left, second.clock);
-    are_as && are_added && remains.close(shared.into_hub()).is_some()
+    match open::<L, Global>(alloc, alloc, blank) {
+        Some((hub, _)) => {
+            let shared = pt_session::Shared::new(hub);
+            let (first, second) = thread::join(
+                rt,
+                || is_played(rt, alloc, &shared, one),
+                || is_played(rt, alloc, &shared, other),
+            );
+            first && second
+        }
+        None => false,
+    }
 }
 
-// Plays both sessions at once, each in a thread, and closes their hub.
+// Plays both sessions at once, each in a thread.
 fn are_played<R: Threads + Wait + HostClock + Sync>(
     rt: &R,
     alloc: Global,
     one: &Play,
     other: &Play,
-    texts: Texts,
 ) -> bool {
-    are_played_in::<Brand, R>(rt, alloc, Blank::new(1 << 63), one, other, texts)
+    are_played_in::<Brand, R>(rt, alloc, Blank::new(1 << 63), one, other)
 }
 
 fn no_marks() -> Marks {
@@ -275,72 +215,48 @@ fn no_marks() -> Marks {
 fn row_27(rt: HostRuntime) {
     let (one, two) = (no_marks(), no_marks());
     let first = Play {
-        input: b"hello 10\nmutex-init m normal robust\nlock m\n",
-        patience: LONG,
+        input: "hello 10\nmutex-init m normal robust\nlock m\n",
         marks: &one,
         line: 0,
         until: Until::Deadline,
         ends_by: &two.asked,
         ends_at: 2,
+        text: "1 0\n2 0\n3 0\n",
     };
     let second = Play {
-        input: b"hello 10\nlock m\n",
-        patience: LONG,
+        input: "hello 10\nlock m\n",
         marks: &two,
         line: 1,
         until: Until::Reaches(&one.answered, 3),
         ends_by: &two.answered,
         ends_at: 2,
+        text: "1 0\n2 EOWNERDEAD\n",
     };
-    let texts = Some(("1 0\n2 0\n3 0\n", "1 0\n2 EOWNERDEAD\n"));
-    assert!(rt; are_played(&rt, rt.alloc(), &first, &second, texts));
+    assert!(rt; are_played(&rt, rt.alloc(), &first, &second));
 }
 
-const CROSSING: &[u8] = b"hello 10\nmutex-init m normal stalled\nlock m\nunlock m\n";
-
-// Plays two sessions, the first of which sends this. The second session's first line passes once
-// the first session asks for its unlock. The unlock is held until the second client waits for the
-// mutex.
-fn is_crossed<R: Threads + Wait + HostClock + Sync>(
-    rt: &R,
-    alloc: Global,
-    input: &'static [u8],
-    patience: (Patience, Patience),
-    texts: Texts,
-) -> bool {
+// The second session's first line passes once the first session asks for its unlock. The unlock is
+// held until the second client waits for the mutex.
+#[test]
+fn gate_crossing(rt: HostRuntime) {
     let (one, two) = (no_marks(), no_marks());
     let first = Play {
-        input,
-        patience: patience.0,
+        input: "hello 10\nmutex-init m normal stalled\nlock m\nunlock m\n",
         marks: &one,
         line: 4,
         until: Until::Deadline,
         ends_by: &one.answered,
         ends_at: 4,
+        text: "1 0\n2 0\n3 0\n4 0\n",
     };
     let second = Play {
-        input: b"hello 10\ntimedlock m 9 0\nunlock m\n",
-        patience: patience.1,
+        input: "hello 10\ntimedlock m 9 0\nunlock m\n",
         marks: &two,
         line: 1,
         until: Until::Reaches(&one.asked, 4),
         ends_by: &two.answered,
         ends_at: 3,
+        text: "1 0\n2 0\n3 0\n",
     };
-    are_played(rt, alloc, &first, &second, texts)
-}
-
-#[test]
-fn gate_crossing(rt: HostRuntime) {
-    let texts = Some(("1 0\n2 0\n3 0\n4 0\n", "1 0\n2 0\n3 0\n"));
-    assert!(rt; is_crossed(&rt, rt.alloc(), CROSSING, (LONG, LONG), texts));
-}
-
-// However much the first session sends, both end and the hub closes.
-#[test]
-fn gate_crossing_cut_at_each_byte(rt: HostRuntime) {
-    for cut in 0..=CROSSING.len() {
-        let is_closed = is_crossed(&rt, rt.alloc(), &CROSSING[..cut], (CLOSING, SHORT), None);
-        assert!(rt; is_closed, "at {cut}");
-    }
+    assert!(rt; are_played(&rt, rt.alloc(), &first, &second));
 }
