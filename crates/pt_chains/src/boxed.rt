@@ -74,7 +74,6 @@ fn put_lone<A: Allocator>(
 
 // Puts the lone chain into the box, unless it is there already. All waiters are in the box
 // afterwards.
-#[inline(always)]
 fn join<A: Allocator>(
     boxed: &mut Option<Box<MarkedQueue, A>>,
     head: &mut Link,
@@ -99,7 +98,6 @@ fn join<A: Allocator>(
 }
 
 // Returns whether a chain has this kind and index.
-#[inline(always)]
 fn is_chain(own: bool, own_p: u8, writer: bool, p: usize) -> bool
     ensures { result ≡ true → (writer ≡ own) × (p ≡ own_p) }
 {
@@ -107,7 +105,6 @@ fn is_chain(own: bool, own_p: u8, writer: bool, p: usize) -> bool
 }
 
 // Returns whether a node between these two is the only one of a chain with `count` waiters.
-#[inline(always)]
 fn is_last(count: u32, before: Link, next: Link) -> bool
     ensures { result ≡ true
         → (count ≡ 1) × (is_some before ≡ false) × (is_some next ≡ false) }
@@ -116,7 +113,6 @@ fn is_last(count: u32, before: Link, next: Link) -> bool
 }
 
 // Returns whether a node between these two is one of several in a chain with `count` waiters.
-#[inline(always)]
 fn is_of_more(count: u32, before: Link, next: Link) -> bool
     ensures { result ≡ true → (count ≢ 1) × ((is_some before || is_some next) ≡ true) }
 {

@@ -126,7 +126,6 @@ impl<A: Allocator + Copy> WaitList for Chains<A> {
         }
     }
 
-    #[inline(always)]
     fn discard(&mut self, object: ObjectId) {
         queues::discard(&mut self.queues, object.0);
     }
@@ -203,7 +202,6 @@ impl<A: Allocator + Copy> WaitList for Chains<A> {
         nodes::waiter_of(&self.nodes, queues::first_of(&self.queues, object.0))
     }
 
-    #[inline(always)]
     fn first_writer(&self, object: ObjectId) -> Option<Waiter> {
         nodes::waiter_of(&self.nodes, queues::first_writer_of(&self.queues, object.0))
     }

@@ -28,7 +28,6 @@ impl<A: Allocator + Copy> Homes<A> {
 
     /// Returns how far a client's number is above the first one. The distance of a lower number
     /// wraps.
-    #[inline(always)]
     pub(crate) fn distance_of(&self, client: u64) -> usize {
         client.wrapping_sub(self.first) as usize
     }

@@ -100,7 +100,6 @@ impl Link {
     }
 
     /// Returns this link if `first` leads to a node, and `second` otherwise.
-    #[inline(always)]
     pub(crate) fn unless_after(self, first: Link, second: Link) -> Link
         ensures { result ≡ (if is_some first then self else second) }
     {

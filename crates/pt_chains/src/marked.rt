@@ -82,7 +82,6 @@ impl MarkedQueue {
     }
 
     /// Makes a node the tail of one of the queue's chains, and returns the previous tail.
-    #[inline(always)]
     pub(crate) fn put_in(&mut self, writer: bool, p: usize, node: NodeIndex) -> Link
         requires index { p < most_priority }
         requires room { slice_index (side_of writer self.old).counts p + 1 < 2 ^ 32 }

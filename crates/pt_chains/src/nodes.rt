@@ -200,7 +200,6 @@ pub(crate) fn remove<A: Allocator + Copy>(
 
 // Returns the node whose index is the distance of the client's number above the first one, if it is
 // the client's node.
-#[inline(always)]
 fn node_by_distance<A: Allocator + Copy>(
     homes: &Homes<A>,
     nodes: &Slab<Node, A>,
@@ -228,7 +227,6 @@ fn node_by_number<A: Allocator + Copy>(homes: &Homes<A>, client: u64) -> Option<
 
 // Returns the node of a client, if it has one. If the numbers of clients follow one another, a node
 // is found by the distance of the number, without a look-up in the map.
-#[inline(always)]
 fn node_of<A: Allocator + Copy>(
     homes: &Homes<A>,
     nodes: &Slab<Node, A>,
@@ -244,7 +242,6 @@ fn node_of<A: Allocator + Copy>(
 }
 
 /// Returns the index of a client's node. The client must have one.
-#[inline(always)]
 pub(crate) fn home_of<A: Allocator + Copy>(
     homes: &Homes<A>,
     nodes: &Slab<Node, A>,
@@ -286,7 +283,6 @@ pub(crate) fn place_of<A: Allocator + Copy>(
 }
 
 /// Returns the place of a node that is in a chain.
-#[inline(always)]
 pub(crate) fn place_at<A: Allocator + Copy>(nodes: &Slab<Node, A>, index: NodeIndex) -> Place
     requires { IsSome (entry_in nodes.now.slots index) }
     ensures index { result.node ≡ index }

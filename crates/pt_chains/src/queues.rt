@@ -84,7 +84,6 @@ impl<A: Allocator + Copy> Queues<A> {
 }
 
 // Returns whether a queue with the same low bits of its number ever had a row.
-#[inline(always)]
 fn is_open(opened: &[bool; COUNT], object: u64) -> bool
     ensures { result ≡ is_open opened.now object }
 {
@@ -100,7 +99,6 @@ fn set_open(opened: &mut [bool; COUNT], object: u64)
 }
 
 // Returns the slot of a queue's row. The row is added if the queue has none.
-#[inline(always)]
 fn row_slot<A: Allocator + Copy>(
     rows: &mut Rows<A>,
     opened: &mut [bool; COUNT],
@@ -242,7 +240,6 @@ pub(crate) fn make<A: Allocator + Copy>(queues: &mut Queues<A>, object: u64) -> 
 }
 
 // Removes a queue's row, if a queue with the same low bits of its number ever had one.
-#[inline(always)]
 fn close<A: Allocator + Copy>(rows: &mut Rows<A>, opened: &[bool; COUNT], object: u64)
     requires { is_open opened.now object ≡ false
         → lookup (nat_eq object) (rows_of rows.old) ≡ None }
@@ -258,7 +255,6 @@ fn close<A: Allocator + Copy>(rows: &mut Rows<A>, opened: &[bool; COUNT], object
 }
 
 /// Removes an existing queue.
-#[inline(always)]
 pub(crate) fn discard<A: Allocator + Copy>(queues: &mut Queues<A>, object: u64)
     requires { IsSome (lookup (nat_eq object) queues.old) }
     ensures queues { (x : ℕ) → lookup (nat_eq x) queues.new
@@ -286,14 +282,12 @@ pub(crate) fn first_of<A: Allocator + Copy>(queues: &Queues<A>, object: u64) -> 
 
 /// Returns the slot in which a queue's row is looked for first. The row in it may be that of
 /// another queue.
-#[inline(always)]
 pub(crate) fn noted_row<A: Allocator + Copy>(queues: &Queues<A>, object: u64) -> usize {
     queues.rows.hint(object)
 }
 
 /// Does what `first_of` does, for a queue that most likely has a row. The row is looked for in this
 /// slot first.
-#[inline(always)]
 pub(crate) fn first_in_row<A: Allocator + Copy>(
     queues: &Queues<A>,
     at: usize,

@@ -117,7 +117,6 @@ impl<A: Allocator + Copy> Rows<A> {
     }
 
     /// Returns the queue of a number if it is in the slot of the number's hint.
-    #[inline(always)]
     pub(crate) fn get_by_hint(&self, number: u64) -> Option<&BoxedQueue<A>>
         ensures { IfSome result (λ queue.
             lookup (nat_eq number) (rows_of self.now) ≡ Some queue.now) }
@@ -126,7 +125,6 @@ impl<A: Allocator + Copy> Rows<A> {
     }
 
     /// Returns the queue of a number, if there is one. The given slot is tried first.
-    #[inline(always)]
     pub(crate) fn get_from(&self, slot: usize, number: u64) -> Option<&BoxedQueue<A>>
         ensures { option_copied result ≡ lookup (nat_eq number) (rows_of self.now) }
     {
@@ -137,7 +135,6 @@ impl<A: Allocator + Copy> Rows<A> {
     }
 
     /// Returns the queue of a number, if there is one.
-    #[inline(always)]
     pub(crate) fn get(&self, number: u64) -> Option<&BoxedQueue<A>>
         ensures { option_copied result ≡ lookup (nat_eq number) (rows_of self.now) }
     {
@@ -145,7 +142,6 @@ impl<A: Allocator + Copy> Rows<A> {
     }
 
     // Returns whether a number's row is in a slot.
-    #[inline(always)]
     fn is_in(&self, slot: usize, number: u64) -> bool
         ensures { OnTrue result (lookup (nat_eq number) self.now.places ≡ Some slot) }
     {
@@ -165,7 +161,6 @@ impl<A: Allocator + Copy> Rows<A> {
     }
 
     /// Returns the slot of a number's row, if there is one. The given slot is tried first.
-    #[inline(always)]
     pub(crate) fn slot_from(&self, slot: usize, number: u64) -> Option<usize>
         ensures { result ≡ lookup (nat_eq number) self.now.places }
     {

@@ -110,7 +110,6 @@ pub(crate) fn take(side: &mut Side, p: usize, before: Link, next: Link)
 }
 
 /// Makes a node the tail of one of a queue's chains, and returns the previous tail.
-#[inline(always)]
 pub(crate) fn put_in(queue: &mut Queue, writer: bool, p: usize, node: NodeIndex) -> Link
     requires index { p < most_priority }
     requires room { slice_index (side_of writer queue.old).counts p + 1 < 2 ^ 32 }
@@ -296,7 +295,6 @@ pub(crate) fn first_of<A: Allocator + Copy>(queues: &Rows<A>, object: u64) -> Op
 }
 
 /// Does what `first_of` does. The queue's row is looked for in this slot first.
-#[inline(always)]
 pub(crate) fn first_from<A: Allocator + Copy>(
     queues: &Rows<A>,
     at: usize,

@@ -141,7 +141,6 @@ impl<A: Allocator + Copy> Asked<A> {
     }
 
     // Replaces the line at an index, which is this client's.
-    #[inline(always)]
     fn store_at(&mut self, index: usize, client: ClientId, line: &LineId)
         requires { key_at self.old.entries index ≡ Some client }
         ensures { IsLatest self.old.entries client line.now self.new.entries }

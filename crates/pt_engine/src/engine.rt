@@ -207,7 +207,6 @@ impl<C: LegalHistory, A: Allocator + Copy> Engine<C, A> {
 
     // Does what a counted line of the clocks says, which is a clock's reading, and appends its
     // answers.
-    #[inline(always)]
     pub(crate) fn tick(
         &mut self,
         clock: Clock,

@@ -45,7 +45,6 @@ impl<C: LegalHistory, A: Allocator + Copy> Engine<C, A> {
     }
 
     // Answers a client's line that is a call, or refuses one that can't be read.
-    #[inline(always)]
     fn ask_or_refuse(
         &mut self,
         line: &LineId,

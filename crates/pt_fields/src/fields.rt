@@ -9,7 +9,6 @@ use std::simd::prelude::*;
 const BLOCK: usize = 16;
 
 // Returns the place of the first space in a block. The bytes are tested together.
-#[inline(always)]
 fn space_in(block: &[u8; BLOCK]) -> Option<usize>
     ensures { IsFirstByte (is_byte 32) block.now result }
 {

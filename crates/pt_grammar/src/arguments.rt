@@ -154,7 +154,6 @@ pub fn name_clock_and_deadline(mut args: Fields) -> Option<(Name, (Clock, Deadli
 }
 
 /// Reads two names.
-#[inline(always)]
 pub fn two_names(mut args: Fields) -> Option<(Name, Name)>
     ensures { result ≡ first_then name_of (alone name_of) args.entry }
 {

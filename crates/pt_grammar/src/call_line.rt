@@ -58,7 +58,6 @@ fn read_barrier_init(args: Fields) -> Option<Call>
 }
 
 // Reads a call on two names.
-#[inline(always)]
 fn read_wait(args: Fields) -> Option<Call>
     ensures { option_map CallLine.Ask result ≡ line_of word.Wait args.entry }
 {
@@ -85,7 +84,6 @@ fn read_clockwait(args: Fields) -> Option<Call>
 }
 
 // Reads a call with a deadline.
-#[inline(always)]
 fn read_timed(verb: TimedVerb, args: Fields) -> Option<Call>
     ensures { option_map CallLine.Ask result ≡ line_of (word.Timed verb) args.entry }
 {

@@ -298,7 +298,6 @@ impl Who {
     }
 
     /// Returns a block that begins with the bytes that are printed for it, and their number.
-    #[inline(always)]
     pub fn filled(&self) -> ([u8; MOST], usize)
         ensures short { result.1 ≤ 8 }
         ensures bytes { take result.1 result.0 ≡ who_text self.now }

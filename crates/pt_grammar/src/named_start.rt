@@ -177,7 +177,6 @@ pub fn wait_at_start(text: &[u8]) -> Option<(&[u8], &[u8])>
 
 // Returns the word of a call of one name and a deadline that a text begins with, and what follows
 // the word and a space.
-#[inline(always)]
 fn timed_word_at_start(text: &[u8]) -> Option<(TimedVerb, &[u8])>
     ensures { IfSome result (λ said. text.now ≡ timed_word said.0 ++ 32 ∷ said.1.now) }
 {
@@ -194,7 +193,6 @@ fn timed_word_at_start(text: &[u8]) -> Option<(TimedVerb, &[u8])>
 /// Returns the word of a call of one name and a deadline, what follows it up to the next space, and
 /// the deadline after that, if a text has these parts. If the second is a name, a client that says
 /// this makes this call.
-#[inline(always)]
 pub fn timed_at_start(text: &[u8]) -> Option<(TimedVerb, &[u8], Deadline)>
     ensures { IfSome result (λ said. (client : List ℕ) → IsName said.1.now
         → body_read (who.Named client) text.now
@@ -209,7 +207,6 @@ pub fn timed_at_start(text: &[u8]) -> Option<(TimedVerb, &[u8], Deadline)>
 
 // Returns the call that this verb makes with what follows its word and a space, if a text begins
 // with these.
-#[inline(always)]
 fn asked_by(text: &[u8], verb: Verb, start: &[u8]) -> Option<Option<Call>>
     requires is { start.now ≡ word_of verb ++ 32 ∷ [] }
     requires long { 4 ≤ length start.now }
@@ -226,7 +223,6 @@ fn asked_by(text: &[u8], verb: Verb, start: &[u8]) -> Option<Option<Call>>
 
 /// Returns the wait with a deadline, if a text begins with the word of one. A client's line that
 /// says this asks for that wait, or is refused as SYNTAX if there is none.
-#[inline(always)]
 pub fn timedwait_at_start(text: &[u8]) -> Option<Option<Call>>
     ensures called { IfSome result (λ asked. IfSome asked (λ call. (client : List ℕ)
         → body_read (who.Named client) text.now ≡ Ok (body.Ask call))) }
@@ -238,7 +234,6 @@ pub fn timedwait_at_start(text: &[u8]) -> Option<Option<Call>>
 
 /// Returns what follows `mutex-init` up to the next space, and the kind and robustness after that,
 /// if a text has these parts. If the first is a name, a client that says this makes this mutex.
-#[inline(always)]
 pub fn mutex_init_at_start(text: &[u8]) -> Option<(&[u8], MutexKind, bool)>
     ensures { IfSome result (λ said. (client : List ℕ) → IsName said.0.now
         → body_read (who.Named client) text.now
@@ -253,7 +248,6 @@ pub fn mutex_init_at_start(text: &[u8]) -> Option<(&[u8], MutexKind, bool)>
 
 /// Returns what follows `barrier-init` up to the next space, and the count after that, if a text
 /// has these parts. If the first is a name, a client that says this makes this barrier.
-#[inline(always)]
 pub fn barrier_init_at_start(text: &[u8]) -> Option<(&[u8], u64)>
     ensures { IfSome result (λ said. (client : List ℕ) → IsName said.0.now
         → body_read (who.Named client) text.now
@@ -268,7 +262,6 @@ pub fn barrier_init_at_start(text: &[u8]) -> Option<(&[u8], u64)>
 
 /// Returns the moment of the real clock, if a text begins with the word of one and a line of the
 /// clocks with this text gives it.
-#[inline(always)]
 pub fn moment_at_start(text: &[u8]) -> Option<Moment>
     ensures { IfSome result (λ moment. body_read who.Star text.now
         ≡ Ok (body.Tick clock.Real moment)) }

@@ -78,7 +78,6 @@ fn verbs_of_length(len: usize) -> &'static [Verb]
 
 /// Returns whether the bytes of two texts are the same. Most words already differ in the first
 /// byte.
-#[inline(always)]
 pub fn is_same(word: &[u8], text: &[u8]) -> bool
     ensures { result ≡ bytes_eq word.now text.now }
 {

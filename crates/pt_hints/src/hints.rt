@@ -49,7 +49,6 @@ impl<A: Allocator + Copy> Hints<A> {
     }
 
     /// Notes the place of the row with a key, if there are hints and the place fits 32 bits.
-    #[inline(always)]
     pub fn set(&mut self, key: u64, place: usize) {
         let index = self.index_of(key);
         if let (Some(hint), Ok(place)) = (self.places.get_mut(index), u32::try_from(place)) {
@@ -58,7 +57,6 @@ impl<A: Allocator + Copy> Hints<A> {
     }
 
     // Returns whether there are more than twice as many hints as rows, or as many as there may be.
-    #[inline(always)]
     fn suffice(&self, rows: usize) -> bool {
         self.places.len() / 2 > rows || self.places.len() >= MOST
     }
@@ -83,7 +81,6 @@ impl<A: Allocator + Copy> Hints<A> {
 
     /// Makes more hints if there are too few for this many rows, and then notes each row again.
     /// `row_at` returns the key and the place of the row at an index below `rows`, if one is there.
-    #[inline]
     pub fn grow_for<F: Fn(usize) -> Option<(u64, usize)>>(
         &mut self,
         rows: usize,

@@ -3,7 +3,6 @@
 ghost use Rattle.std.specs.Prelude.{◌≡◌, ◌-◌, ◌≤◌, ◌*◌, length, true, take, drop};
 
 // Returns whether four bytes are the same, compared as one number.
-#[inline(always)]
 fn four_equal(one: &[u8; 4], other: &[u8; 4]) -> bool
     ensures { result ≡ true → one.now ≡ other.now }
 {
@@ -11,7 +10,6 @@ fn four_equal(one: &[u8; 4], other: &[u8; 4]) -> bool
 }
 
 // Returns whether eight bytes are the same, compared as one number.
-#[inline(always)]
 fn eight_equal(one: &[u8; 8], other: &[u8; 8]) -> bool
     ensures { result ≡ true → one.now ≡ other.now }
 {
@@ -19,7 +17,6 @@ fn eight_equal(one: &[u8; 8], other: &[u8; 8]) -> bool
 }
 
 // Returns whether both texts have at least four bytes, and the same first four.
-#[inline(always)]
 fn first_four_equal(one: &[u8], other: &[u8]) -> bool
     ensures enough { result ≡ true → 4 ≤ length other.now }
     ensures same { result ≡ true → take 4 one.now ≡ take 4 other.now }
@@ -43,7 +40,6 @@ fn last_four_equal(one: &[u8], other: &[u8]) -> bool
 }
 
 // Returns whether both texts have at least eight bytes, and the same first eight.
-#[inline(always)]
 fn first_eight_equal(one: &[u8], other: &[u8]) -> bool
     ensures enough { result ≡ true → 8 ≤ length other.now }
     ensures same { result ≡ true → take 8 one.now ≡ take 8 other.now }
@@ -55,7 +51,6 @@ fn first_eight_equal(one: &[u8], other: &[u8]) -> bool
 }
 
 // Returns whether both texts have at least eight bytes, and the same last eight.
-#[inline(always)]
 fn last_eight_equal(one: &[u8], other: &[u8]) -> bool
     ensures { result ≡ true
         → drop (length one.now - 8) one.now ≡ drop (length other.now - 8) other.now }
@@ -78,7 +73,6 @@ fn fours_equal(one: &[u8], other: &[u8]) -> bool
 }
 
 // Returns whether texts of one length, of 8 to 16 bytes, are the same.
-#[inline(always)]
 fn eights_equal(one: &[u8], other: &[u8]) -> bool
     requires same { length one.now ≡ length other.now }
     requires all { length other.now ≤ 16 }
@@ -88,7 +82,6 @@ fn eights_equal(one: &[u8], other: &[u8]) -> bool
 }
 
 // Returns whether texts of one length, of 16 to 32 bytes, are the same.
-#[inline(always)]
 fn halves_equal(one: &[u8], other: &[u8]) -> bool
     requires same { length one.now ≡ length other.now }
     requires enough { 16 ≤ length other.now }

@@ -277,7 +277,6 @@ pub(crate) fn entry_of(forced: &ForcedEntry) -> Entry
 }
 
 /// Returns the stored form of a forced entry, or None if its number does not fit.
-#[inline(always)]
 pub(crate) fn stored_forced(base: u64, forced: &ForcedEntry) -> Option<Compact>
     ensures { IfSome result (λ c. ShowsAlone base c (forced_entry forced.now)) }
 {

@@ -31,7 +31,6 @@ impl<A: Allocator + Copy> History<A> {
 
     // Appends the entry of a call that makes a mutex or a barrier, if a hint finds its name and its
     // numbers fit, and reports whether it did.
-    #[inline(always)]
     fn push_made_again(&mut self, client: ClientId, call: &Call, outcome: Option<Outcome>) -> bool
         requires { 0 < self.old.room }
         ensures { self.new
@@ -65,7 +64,6 @@ impl<A: Allocator + Copy> History<A> {
 
     // Appends the entry of a call for a lock with a deadline, if its numbers fit, and reports
     // whether it did.
-    #[inline(always)]
     fn push_timed(&mut self, client: ClientId, call: &Call, outcome: Option<Outcome>) -> bool
         requires { 0 < self.old.room }
         ensures { self.new
@@ -139,7 +137,6 @@ impl<A: Allocator + Copy> History<A> {
     }
 
     // Does what `push_named` does. A call that makes a mutex or a barrier takes the fewest steps.
-    #[inline(always)]
     fn push_made(&mut self, client: ClientId, call: &Call, outcome: Option<Outcome>)
         requires { 0 < self.old.room }
         ensures { self.new

@@ -173,7 +173,6 @@ impl<A: Allocator + Copy> History<A> {
     /// Makes room for `room` more entries. Returns FULL exactly if the history would exceed its
     /// limit with them, else ENOMEM if the growth is refused. A refusal changes nothing. Room that
     /// the history has already is never refused.
-    #[inline(always)]
     pub fn reserve_for(&mut self, room: u64) -> Result<(), Refusal>
         ensures ok { OnOk result (self.new ≡ record self.old { room = room }) }
         ensures full { (result ≡ Err Refusal.Full)

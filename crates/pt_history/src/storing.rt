@@ -153,7 +153,6 @@ impl<A: Allocator + Copy> Records<A> {
 
     /// Stores what the entry of a call for a lock with a deadline refers to, and returns its stored
     /// form, if its numbers fit. This allocates nothing.
-    #[inline(always)]
     pub(crate) fn store_short_timed(
         &mut self,
         base: u64,
@@ -224,7 +223,6 @@ impl<A: Allocator + Copy> Records<A> {
 
     /// Returns the stored form of a call that makes a mutex or a barrier, if a hint finds its name
     /// and its numbers fit.
-    #[inline(always)]
     pub(crate) fn made_again(
         &self,
         base: u64,
@@ -338,7 +336,6 @@ impl<A: Allocator + Copy> Records<A> {
     }
 
     // Returns the stored form of a forced entry, if its number fits.
-    #[inline(always)]
     fn store_short_forced(&mut self, base: u64, forced: &ForcedEntry) -> Option<Compact>
         requires { HasRoom self.old 1 }
         ensures { ShowsIfSome base (forced_entry forced.now) self.old self.new result }
@@ -347,7 +344,6 @@ impl<A: Allocator + Copy> Records<A> {
     }
 
     /// Stores a forced entry, and returns its stored form. This allocates nothing.
-    #[inline(always)]
     pub(crate) fn store_forced(&mut self, base: u64, forced: &ForcedEntry) -> Compact
         requires room { HasRoom self.old 1 }
         requires few { vec_len self.old.wholes ≤ 4294967295 }

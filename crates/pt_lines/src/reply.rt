@@ -80,7 +80,6 @@ fn append_sender<A: Allocator + Copy>(out: &mut Vec<u8, A>, who: Option<&Who>)
 
 // Appends the part of an answer that precedes the line's number. The buffer also has room for the
 // padding of a client.
-#[inline(always)]
 fn append_who<A: Allocator + Copy>(out: &mut Vec<u8, A>, who: Option<&Who>)
     requires { vec_len out.old + 9 ≤ vec_capacity out.old }
     ensures items { out.new.items ≡ out.old.items ++ sender (option_copied who.entry) }
@@ -142,7 +141,6 @@ fn filled(word: Word) -> (&'static [u8; MOST_OF_WORD], usize)
 }
 
 // Appends a word and a newline. The buffer also has room for their padding.
-#[inline(always)]
 fn append_word<A: Allocator + Copy>(out: &mut Vec<u8, A>, word: Word)
     requires { vec_len out.old + 16 ≤ vec_capacity out.old }
     ensures { out.new.items ≡ out.old.items ++ (answer_word word ++ 10 ∷ []) }
@@ -202,7 +200,6 @@ fn append_done<A: Allocator + Copy>(out: &mut Vec<u8, A>, name: &ClientName, n: 
 }
 
 // Appends an answer whose number has few digits. The buffer has room for it.
-#[inline(always)]
 #[tactic(auto, using(crate::proofs::DigitLemmas::few_digits))]
 fn append_other<A: Allocator + Copy>(out: &mut Vec<u8, A>, who: Option<&Who>, n: u64, word: Word)
     requires below { n < 1000000 }

@@ -31,7 +31,6 @@ use std::alloc::Allocator;
 // Pushes an arrival that waits, and puts it into its barrier's queue. The client's priority does
 // not matter there, so the client's row is not looked at again, which saves 6 percent of the
 // instructions of barriers.  [XSH pthread_barrier_wait]
-#[inline(always)]
 fn arrive<Q: WaitList, A: Allocator + Copy>(
     state: &mut State<A>,
     queues: &mut Q,
@@ -53,7 +52,6 @@ fn arrive<Q: WaitList, A: Allocator + Copy>(
 
 impl<Q: WaitList, A: Allocator + Copy> Body<Q, A> {
     // Pushes an arrival that waits at its barrier.  [XSH pthread_barrier_wait]
-    #[inline(always)]
     fn push_arrival(&mut self, c: ClientId, call: &Call, n: &Name, plan: &Plan)
         requires ready { IsReadyFor self.old (entry.Call c call.now None) }
         requires operation { operation call.now ≡ Arrives n.now }
@@ -69,7 +67,6 @@ impl<Q: WaitList, A: Allocator + Copy> Body<Q, A> {
 
     /// Pushes an arrival that waits at its barrier, and the Trip of the barrier if it is full after
     /// that. Returns true if it is not full; then nothing must follow.  [XSH pthread_barrier_wait]
-    #[inline(always)]
     pub fn push_arrived(&mut self, c: ClientId, call: &Call, n: &Name, plan: &Plan) -> bool
         requires ready { IsReadyFor self.old (entry.Call c call.now None) }
         requires next { IsReadyAfter self.old (entry.Call c call.now None) }

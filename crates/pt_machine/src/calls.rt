@@ -24,7 +24,6 @@ use pt_waitq::WaitList;
 use std::alloc::Allocator;
 
 /// Returns the object that a call's name means, or 0 if it means none.
-#[inline(always)]
 pub(crate) fn object_named(request: &Request) -> ObjectId
     ensures { result ≡ unwrap_or request.now.object 0 }
 {

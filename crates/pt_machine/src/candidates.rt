@@ -206,7 +206,6 @@ impl<Q: WaitList, A: Allocator + Copy> Body<Q, A> {
     }
 
     /// Does what `service_at` does, for an object that is a barrier.  [XSH pthread_barrier_wait]
-    #[inline(always)]
     pub(crate) fn arrival_service(&self, b: ObjectId) -> Option<Service>
         requires { AreTables self.now }
         ensures { IsService (past self.now) (candidate_in (past self.now) b) result }

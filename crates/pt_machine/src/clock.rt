@@ -101,7 +101,6 @@ fn has_none<A: Allocator + Copy>(timers: &Timers<A>) -> bool
 }
 
 /// Drops the deadline of a call, if one is set at its place.
-#[inline(always)]
 pub(crate) fn drop_deadline<A: Allocator + Copy>(timers: &mut Timers<A>, call: &WaitingCall)
     requires { HasOwnDeadline timers.old call.now }
     ensures { (p : ℕ)
@@ -204,7 +203,6 @@ fn push_left<Q: WaitList, A: Allocator + Copy>(
 }
 
 // Returns whether a call can move waits.  [XSH pthread_cond_broadcast]
-#[inline(always)]
 fn can_move_waits(call: &Call) -> bool
     ensures { result ≡ can_move_waits_in (operation call.now) }
 {
@@ -338,7 +336,6 @@ pub(crate) fn push_outer<Q: WaitList, A: Allocator + Copy>(
 
 /// Pushes the Grant of a call for a read-write lock, and drops its deadline.
 /// [XSH pthread_rwlock_unlock]
-#[inline(always)]
 pub(crate) fn push_granted<Q: WaitList, A: Allocator + Copy>(
     state: &mut State<A>,
     queues: &mut Q,

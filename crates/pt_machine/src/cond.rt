@@ -82,7 +82,6 @@ pub(crate) fn push_signal<Q: WaitList, A: Allocator + Copy>(
 
 // Returns a waiter as it waits after the entry at this place has moved it.
 // [XSH pthread_cond_broadcast]
-#[inline(always)]
 fn moved_at(place: u64, waiter: &Waiter) -> Waiter
     ensures { result ≡ record waiter.now { moved = place } }
 {
@@ -183,7 +182,6 @@ fn bound_at<Q: WaitList, A: Allocator + Copy>(
 
 // Returns the mutex with which calls wait at the condition, or 0 if none do.
 // [XSH pthread_cond_wait]
-#[inline(always)]
 fn mutex_of_waits<Q: WaitList, A: Allocator + Copy>(
     queues: &Q,
     state: &State<A>,

@@ -40,7 +40,6 @@ use std::alloc::Allocator;
 
 // Returns how many entries are no longer reserved after a call got its mutex. If a robust mutex got
 // an owner, that is one fewer, since an entry is reserved for its Yield.
-#[inline(always)]
 fn used_by_gain(open: &Open, had: Had) -> u64
     ensures { let reserved = counted reserved_open (Some «open».now) in
         result ≡ if had.robust && is_acquired_it had.outcome then reserved - 1 else reserved }
@@ -54,7 +53,6 @@ fn used_by_gain(open: &Open, had: Had) -> u64
 
 // Pushes the Grant of a call for a read-write lock, which leaves its queue.
 // [XSH pthread_rwlock_unlock]
-#[inline(always)]
 pub(crate) fn push_granted<Q: WaitList, A: Allocator + Copy>(
     state: &mut State<A>,
     queues: &mut Q,
@@ -123,7 +121,6 @@ impl<Q: WaitList, A: Allocator + Copy> Body<Q, A> {
 
     // Pushes the Grant of a call, which gets its mutex or learns that it is lost. The touched
     // object stays the same.  [XSH pthread_mutex_unlock]
-    #[inline(always)]
     fn push_gained(&mut self, found: &Open, m: ObjectId)
         requires read { AreTables self.old }
         requires ready { IsReadyFor self.old (service (past self.old) (called found.now)) }
@@ -139,7 +136,6 @@ impl<Q: WaitList, A: Allocator + Copy> Body<Q, A> {
 
     // Pushes the Grant of a call for a read-write lock. The touched object stays the same.
     // [XSH pthread_rwlock_unlock]
-    #[inline(always)]
     fn push_passed(&mut self, found: &Open)
         requires read { AreTables self.old }
         requires ready { IsReadyFor self.old (service (past self.old) (called found.now)) }
@@ -181,7 +177,6 @@ impl<Q: WaitList, A: Allocator + Copy> Body<Q, A> {
 
     // Pushes the entry that serves the first call and, at a barrier, all others that wait there.
     // [XSH pthread_barrier_wait]
-    #[inline(always)]
     pub(crate) fn push_first(&mut self, service: Service)
         requires read { AreTables self.old }
         requires ready { (w : WaitingCall) × (In w (open_calls (past self.old))

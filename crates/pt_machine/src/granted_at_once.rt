@@ -46,7 +46,6 @@ use std::alloc::Allocator;
 
 // Returns whether nobody holds a lock that keeps a call of this kind from a read-write lock.
 // [XSH pthread_rwlock_rdlock, pthread_rwlock_wrlock]
-#[inline(always)]
 fn is_free_lock<A: Allocator + Copy>(kind: LockKind, lock: &Holders<A>) -> bool
     ensures free { OnTrue result (IsFreeLock kind lock.now) }
     ensures all { IsFreeLock kind lock.now → result ≡ true }
@@ -59,7 +58,6 @@ fn is_free_lock<A: Allocator + Copy>(kind: LockKind, lock: &Holders<A>) -> bool
 }
 
 // Returns whether a call for a lock has no deadline that is a time.  [XSH pthread_mutex_timedlock]
-#[inline(always)]
 fn is_untimed(how: &How) -> bool
     ensures untimed { OnTrue result (good_of (deadline_of how.now) ≡ None) }
     ensures plain { how.now ≡ How.Plain → result ≡ true }
@@ -98,7 +96,6 @@ struct Granted {
 // Returns how many entries are no longer reserved after the Grant of a call for a mutex. One stays
 // reserved for a Yield if the mutex is robust and was acquired.
 // [XSH pthread_mutex_lock, EOWNERDEAD]
-#[inline(always)]
 fn used_by_had(had: Had) -> u64
     ensures { result ≡ if had.robust && is_acquired_it had.outcome then 2 else 3 }
 {
@@ -133,7 +130,6 @@ fn push_had<A: Allocator + Copy>(
 }
 
 // Returns whether a call is for a read lock.  [XSH pthread_rwlock_rdlock]
-#[inline(always)]
 fn asks_to_read(call: &Call) -> bool
     ensures { result ≡ asks_to_read_of (operation call.now) }
 {
@@ -172,7 +168,6 @@ fn push_lock_had<A: Allocator + Copy>(
 }
 
 // Returns whether a call is for a mutex.  [XSH pthread_mutex_lock]
-#[inline(always)]
 fn asks_for_mutex(call: &Call) -> bool
     ensures { result ≡ asks_for_mutex_of (operation call.now) }
 {

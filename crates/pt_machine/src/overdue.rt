@@ -50,7 +50,6 @@ impl<Q: WaitList, A: Allocator + Copy> Body<Q, A> {
 
     /// Returns the open call that came at a place, if there is one. This client's open call is
     /// looked at first, since it takes longer to read the entry of an old call.
-    #[inline(always)]
     pub(crate) fn open_at(&self, place: u64, c: ClientId) -> Option<&Open>
         requires { AreTables self.now }
         ensures value { option_map called (option_copied result)

@@ -94,7 +94,6 @@ impl<Q: WaitList, A: Allocator + Copy> Body<Q, A> {
 
     // Returns what a wait changes. Its client gives back one lock on the mutex.
     // [XSH pthread_cond_wait]
-    #[inline(always)]
     fn change_by_wait(
         &self,
         c: ClientId,
@@ -124,7 +123,6 @@ impl<Q: WaitList, A: Allocator + Copy> Body<Q, A> {
 
     // Returns what a call changes if it has to wait.
     // [XSH pthread_mutex_lock, pthread_cond_wait, pthread_barrier_wait]
-    #[inline(always)]
     fn change_if_waiting(
         &self,
         c: ClientId,

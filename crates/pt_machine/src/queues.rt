@@ -23,7 +23,6 @@ use std::alloc::Allocator;
 
 // Returns the priority with which a call waits. At a barrier every call has the highest, so that
 // calls wait in order of their arrival.  [XSH pthread_barrier_wait]
-#[inline(always)]
 fn standing(role: Role, prio: Priority) -> Priority
     ensures { result ≡ standing_in role prio }
 {
@@ -35,7 +34,6 @@ fn standing(role: Role, prio: Priority) -> Priority
 }
 
 /// Returns a client's arrival as it waits, given its place.  [XSH pthread_barrier_wait]
-#[inline(always)]
 pub(crate) fn arriving(client: ClientId, place: u64) -> Waiter
     ensures { result ≡ arriving_in client place }
 {
@@ -49,7 +47,6 @@ pub(crate) fn arriving(client: ClientId, place: u64) -> Waiter
 }
 
 /// Returns an open call as it waits, with its client's priority.  [XSH 2.8.4]
-#[inline(always)]
 pub(crate) fn waiter_of(open: &Open, prio: Priority) -> Waiter
     ensures { result
         ≡ record (waiter_by «open».now.moved «open».now.call) {
@@ -96,7 +93,6 @@ pub(crate) fn take_place<Q: WaitList, A: Allocator + Copy>(
 
 impl<Q: WaitList, A: Allocator + Copy> Body<Q, A> {
     /// Returns whether a call waits at the object.  [XSH pthread_mutex_destroy]
-    #[inline(always)]
     pub(crate) fn is_awaited(&self, o: ObjectId) -> bool
         requires { AreTables self.now }
         ensures { result ≡ is_awaited_in (past self.now) o }

@@ -39,7 +39,6 @@ impl<Q: WaitList, A: Allocator + Copy> Body<Q, A> {
     }
 
     /// Returns how many more entries the limit allows.
-    #[inline(always)]
     pub fn left(&self) -> u64
         ensures { length self.now.stored.entries + result ≡ self.now.stored.limit }
     {
@@ -58,7 +57,6 @@ impl<Q: WaitList, A: Allocator + Copy> Body<Q, A> {
     /// Makes room for `room` more entries. FULL exactly if the history would pass its limit with
     /// them, else ENOMEM if the growth is refused. A refusal changes nothing. Room that is there
     /// already is never refused.
-    #[inline(always)]
     pub fn reserve_for(&mut self, room: u64) -> Result<(), Refusal>
         ensures ok { OnOk result (self.new
             ≡ record self.old { stored = record self.old.stored { room = room } }) }
@@ -73,7 +71,6 @@ impl<Q: WaitList, A: Allocator + Copy> Body<Q, A> {
 
     /// Makes room for `many` more answers. ENOMEM if the growth is refused. Room that is there
     /// already is never refused.
-    #[inline(always)]
     pub fn reserve_answers(&mut self, many: u64) -> Result<(), Refusal>
         ensures same { self.new ≡ record self.old { answers = self.new.answers } }
         ensures told { self.new.answers.items ≡ self.old.answers.items }

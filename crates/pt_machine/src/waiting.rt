@@ -14,7 +14,6 @@ use pt_waitq::WaitList;
 use std::alloc::Allocator;
 
 // Returns a living client's priority, as its row has it.  [XSH 2.8.4]
-#[inline(always)]
 fn priority_in_row<A: Allocator + Copy>(state: &State<A>, c: ClientId) -> Priority
     requires read { AreTables state.now }
     requires alive { is_alive (past state.now) c ≡ true }
@@ -24,7 +23,6 @@ fn priority_in_row<A: Allocator + Copy>(state: &State<A>, c: ClientId) -> Priori
 }
 
 // Returns the object that an open call names.
-#[inline(always)]
 fn object_in(open: &Open) -> ObjectId
     ensures { result ≡ «open».now.call.object }
 {

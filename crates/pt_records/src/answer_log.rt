@@ -186,7 +186,6 @@ impl<A: Allocator + Copy> AnswerLog<A> {
     }
 
     /// Returns the number of further answers for which there is memory.
-    #[inline(always)]
     pub fn spare(&self) -> usize
         ensures { length self.now.items + result ≡ self.now.capacity }
     {
@@ -201,7 +200,6 @@ impl<A: Allocator + Copy> AnswerLog<A> {
     }
 
     /// Returns the place of the entry that gave the answer at an index.
-    #[inline(always)]
     pub fn given_at(&self, i: usize) -> u64
         requires { i < length self.now.items }
         ensures { result ≡ (slice_index_or self.now.items i no_answer).at }
@@ -210,7 +208,6 @@ impl<A: Allocator + Copy> AnswerLog<A> {
     }
 
     /// Returns the answers from an index on.
-    #[inline(always)]
     pub fn from(&self, i: usize) -> LoggedAnswers<'_>
         requires { i ≤ length self.now.items }
         ensures { result ≡ drop i self.now.items }

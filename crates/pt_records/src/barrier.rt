@@ -23,7 +23,6 @@ use std::alloc::Allocator;
 
 // Returns the answer to a call at a barrier: SERIAL for the last call, 0 for the others.
 // [XSH pthread_barrier_wait, which one is profile]
-#[inline(always)]
 fn answer_to(at: u64, waiter: &Waiter, is_last: bool) -> Answered
     ensures { result ≡ answer_to at is_last waiter.now }
 {
@@ -41,7 +40,6 @@ fn answer_to(at: u64, waiter: &Waiter, is_last: bool) -> Answered
 }
 
 // Closes the open call that an answer is to, and stores the answer in its client's row.
-#[inline(always)]
 fn close_by<A: Allocator + Copy>(clients: &mut Clients<Caller, A>, answer: &Answered)
     ensures { ChangesCaller clients.old clients.new «answer».now.client (closed_by answer.now) }
 {
@@ -53,7 +51,6 @@ fn close_by<A: Allocator + Copy>(clients: &mut Clients<Caller, A>, answer: &Answ
 
 // Answers each waiter of a queue, in the order of the queue, and removes it from the queue. Each
 // call is closed, and its client's row has the answer.
-#[inline(always)]
 fn tell_queue<Q: WaitList, A: Allocator + Copy>(
     clients: &mut Clients<Caller, A>,
     queues: &mut Q,
@@ -82,7 +79,6 @@ fn tell_queue<Q: WaitList, A: Allocator + Copy>(
 
 /// Appends the answers that the barrier's Trip after this history gives, in room that was made for
 /// them. Each call is closed, its client's row has the answer, and it leaves the barrier's queue.
-#[inline(always)]
 pub fn trip<Q: WaitList, A: Allocator + Copy>(
     history: &History<A>,
     clients: &mut Clients<Caller, A>,

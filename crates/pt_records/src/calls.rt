@@ -15,7 +15,6 @@ use pt_types::{ClientId, Clock, ObjectId, Outcome};
 use std::alloc::Allocator;
 
 /// Stores the call at this place as its client's latest call, which is open.
-#[inline(always)]
 pub fn stand<A: Allocator + Copy>(
     clients: &mut Clients<Caller, A>,
     c: ClientId,
@@ -36,7 +35,6 @@ pub fn stand<A: Allocator + Copy>(
 
 /// Stores the call at this place as its client's latest call, which waits at this barrier.
 /// [XSH pthread_barrier_wait]
-#[inline(always)]
 pub fn arrive<A: Allocator + Copy>(
     clients: &mut Clients<Caller, A>,
     c: ClientId,

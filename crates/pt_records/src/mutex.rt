@@ -30,7 +30,6 @@ use std::alloc::Allocator;
 
 /// Returns whether an object is a robust mutex on which the client has exactly one lock.
 /// [XSH pthread_mutex_unlock]
-#[inline(always)]
 pub fn is_last<A: Allocator + Copy>(object: &Object<A>, c: ClientId) -> bool
     ensures { result ≡ is_last_lock c object.now }
 {

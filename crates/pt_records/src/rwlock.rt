@@ -106,7 +106,6 @@ pub fn acquire_write<A: Allocator + Copy>(
 }
 
 /// Gives back the client's write lock, or one of its read locks.  [XSH pthread_rwlock_unlock]
-#[inline(always)]
 pub fn release_lock<A: Allocator + Copy>(
     objects: &mut Objects<Object<A>, A>,
     r: ObjectId,

@@ -36,7 +36,6 @@ fn base_before(at: u64) -> u64
 
 /// Returns the base of a log after an answer that is given at a place is added. It is the old base,
 /// unless the log is empty.
-#[inline(always)]
 pub(crate) fn base_with(base: u64, shorts: &[Short], at: u64) -> u64
     requires { base ≤ most_places }
     ensures base { result ≤ most_places }
@@ -81,7 +80,6 @@ pub(crate) fn near_answer(base: u64, answer: &Answered) -> Option<Short>
 
 /// Returns an answer in short. If its numbers do not fit, it is stored whole, in room that was made
 /// for it.
-#[inline(always)]
 pub(crate) fn shortened<A: Allocator + Copy>(
     base: u64,
     wholes: &mut Vec<Answered, A>,

@@ -37,7 +37,6 @@ impl<A: Allocator + Copy> BoxedRows<A> {
     }
 
     /// Returns the rows. Each has its client's number and read locks.
-    #[inline(always)]
     pub(crate) fn as_slice(&self) -> &[(u64, u8)]
         ensures { result.now ≡ self.now }
     {
@@ -48,7 +47,6 @@ impl<A: Allocator + Copy> BoxedRows<A> {
     }
 
     /// Returns the number of rows.
-    #[inline(always)]
     pub(crate) fn len(&self) -> usize
         ensures len { result ≡ length self.now }
         ensures small { result < 2 ^ 63 }
@@ -61,7 +59,6 @@ impl<A: Allocator + Copy> BoxedRows<A> {
     }
 
     /// Returns the read locks of a client, if it has a row.
-    #[inline(always)]
     pub(crate) fn get(&self, client: u64) -> Option<u8>
         ensures { result ≡ lookup (is_at (nat_cmp client)) self.now }
     {
@@ -72,7 +69,6 @@ impl<A: Allocator + Copy> BoxedRows<A> {
     }
 
     /// Returns whether a client has a row. Its place is stored as the client's hint.
-    #[inline(always)]
     pub(crate) fn has(&mut self, client: u64) -> bool
         ensures found { result ≡ is_some (lookup (is_at (nat_cmp client)) self.old) }
         ensures same { self.new ≡ self.old }
@@ -116,7 +112,6 @@ impl<A: Allocator + Copy> BoxedRows<A> {
     }
 
     /// Adds a read lock to a client's row, and returns how many it had before.
-    #[inline(always)]
     pub(crate) fn add_read(&mut self, client: u64) -> u8
         requires few { IfSome (lookup (is_at (nat_cmp client)) self.old) (λ reads. reads < 255) }
         requires there { IsSome (lookup (is_at (nat_cmp client)) self.old) }
@@ -135,7 +130,6 @@ impl<A: Allocator + Copy> BoxedRows<A> {
     }
 
     /// Removes a read lock from a client's row, and returns how many it had before.
-    #[inline(always)]
     pub(crate) fn take_read(&mut self, client: u64) -> u8
         requires some { IfSome (lookup (is_at (nat_cmp client)) self.old) (λ reads. 0 < reads) }
         requires there { IsSome (lookup (is_at (nat_cmp client)) self.old) }

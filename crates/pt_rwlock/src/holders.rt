@@ -69,7 +69,6 @@ impl<A: Allocator + Copy> Holders<A> {
 
     /// Makes a row for the client's read locks, unless the client has one already. Returns ENOMEM
     /// if memory cannot be grown for a new row.
-    #[inline(always)]
     pub fn make_row(&mut self, client: ClientId) -> Result<(), Refusal>
         ensures ok { OnOk result (self.new ≡ with_row self.old client) }
         ensures row { let reads = reads_of self.old client in
@@ -88,7 +87,6 @@ impl<A: Allocator + Copy> Holders<A> {
     }
 
     // Returns whether the client has a row.
-    #[inline(always)]
     fn has_row(&mut self, client: ClientId) -> bool
         ensures found { result ≡ is_some (row_of self.old client) }
         ensures same { self.new ≡ self.old }
@@ -97,7 +95,6 @@ impl<A: Allocator + Copy> Holders<A> {
     }
 
     /// Returns how the client holds the lock.  [XSH pthread_rwlock_unlock]
-    #[inline(always)]
     pub fn held_by(&self, client: ClientId) -> Held
         ensures { result ≡ held (seen_by self.now client) }
     {
@@ -131,7 +128,6 @@ impl<A: Allocator + Copy> Holders<A> {
         self.writer == Some(client)
     }
 
-    #[inline(always)]
     pub(crate) fn reads_of(&self, client: ClientId) -> u8
         ensures { result ≡ reads_of self.now client }
     {
@@ -155,7 +151,6 @@ impl<A: Allocator + Copy> Holders<A> {
 
     /// Returns the verdict of a call for a read lock, given whether a writer of the caller's
     /// priority or a higher one waits.  [XSH pthread_rwlock_rdlock]
-    #[inline(always)]
     pub fn verdict_read_behind(&self, caller: ClientId, blocked: bool, how: How) -> Verdict
         ensures { result ≡ read_verdict (seen_by self.now caller) blocked how }
     {
@@ -175,7 +170,6 @@ impl<A: Allocator + Copy> Holders<A> {
 
     /// Returns the verdict of the client's `wrlock`, `trywrlock` or `timedwrlock`. Doesn't check
     /// whether a deadline is due.  [XSH pthread_rwlock_wrlock, pthread_rwlock_timedwrlock]
-    #[inline(always)]
     pub fn verdict_write(&self, caller: ClientId, how: How) -> Verdict
         ensures { result ≡ write_verdict (seen_by self.now caller) how }
     {
@@ -192,7 +186,6 @@ impl<A: Allocator + Copy> Holders<A> {
 
     /// Returns the verdict of the client's `rwunlock`. EPERM is profile.
     /// [XSH pthread_rwlock_unlock]
-    #[inline(always)]
     pub fn verdict_unlock(&self, caller: ClientId) -> Verdict
         ensures { result ≡ rwunlock_verdict (seen_by self.now caller) }
     {
@@ -204,7 +197,6 @@ impl<A: Allocator + Copy> Holders<A> {
     }
 
     /// Returns whether the client holds the lock in either way.  [XSH pthread_rwlock_unlock]
-    #[inline(always)]
     pub fn holds(&self, client: ClientId) -> bool
         ensures { result ≡ holds (seen_by self.now client) }
     {
@@ -213,7 +205,6 @@ impl<A: Allocator + Copy> Holders<A> {
 
     /// Gives the client one more read lock. No writer may hold the lock, and the client must have a
     /// row with fewer than 255 read locks.  [XSH pthread_rwlock_rdlock]
-    #[inline(always)]
     pub fn acquire_read(&mut self, client: ClientId)
         requires { IsTrue (can_acquire_read self.old client) }
         ensures change { self.new ≡ with_reads self.old client (reads_of self.old client + 1) }
@@ -235,7 +226,6 @@ impl<A: Allocator + Copy> Holders<A> {
     }
 
     /// Takes back the client's write lock, or one of its read locks.  [XSH pthread_rwlock_unlock]
-    #[inline(always)]
     pub fn release(&mut self, client: ClientId)
         requires { IsTrue (holds (seen_by self.old client)) }
         ensures change { self.new ≡ released self.old client }

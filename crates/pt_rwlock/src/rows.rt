@@ -16,7 +16,6 @@ use std::marker::Model;
 const FEW: usize = 8;
 
 // Returns the read locks in the row at a place, if it is the client's.
-#[inline(always)]
 fn reads_at(rows: &[(u64, u8)], place: usize, client: u64) -> Option<u8>
     ensures { result ≡ reads_for client (slice_get rows.now place) }
 {
@@ -46,7 +45,6 @@ fn count_below(rows: &[(u64, u8)], client: u64) -> usize
 }
 
 // Returns the read locks in a client's row, if the hint leads there.
-#[inline(always)]
 fn reads_hinted(rows: &[(u64, u8)], hint: Option<usize>, client: u64) -> Option<u8>
     requires { IsInOrder rows.now }
     ensures { IfSome result (λ reads. lookup (is_at (nat_cmp client)) rows.now ≡ Some reads) }
@@ -64,7 +62,6 @@ fn reads_apart(rows: &[(u64, u8)], client: u64) -> Option<u8>
 }
 
 // Returns the place of a client's row, if the hint leads there.
-#[inline(always)]
 fn hinted(rows: &[(u64, u8)], hint: Option<usize>, client: u64) -> Option<usize>
     requires { IsInOrder rows.now }
     ensures { IfSome result (λ place. place ≡ place_in rows.now client) }
@@ -178,7 +175,6 @@ impl<A: Allocator + Copy> Rows<A> {
     }
 
     // Does what search does, but tries the client's hint first.
-    #[inline(always)]
     fn note_place_of(&mut self, client: u64) -> usize
         ensures place { result ≡ place_in self.old client }
         ensures same { self.new ≡ self.old }
@@ -190,7 +186,6 @@ impl<A: Allocator + Copy> Rows<A> {
     }
 
     /// Returns the read locks of a client, if it has a row.
-    #[inline(always)]
     pub(crate) fn get(&self, client: u64) -> Option<u8>
         ensures { result ≡ lookup (is_at (nat_cmp client)) self.now }
     {
@@ -212,7 +207,6 @@ impl<A: Allocator + Copy> Rows<A> {
     }
 
     /// Returns whether a client has a row. Its place is stored as the client's hint.
-    #[inline(always)]
     pub(crate) fn has(&mut self, client: u64) -> bool
         ensures found { result ≡ is_some (lookup (is_at (nat_cmp client)) self.old) }
         ensures same { self.new ≡ self.old }
@@ -242,7 +236,6 @@ impl<A: Allocator + Copy> Rows<A> {
     }
 
     // Returns the read locks in a client's row, which is at `place`.
-    #[inline(always)]
     fn reads(&self, place: usize, client: u64) -> u8
         requires place { place ≡ place_in self.now client }
         requires there { IsSome (lookup (is_at (nat_cmp client)) self.now) }
@@ -252,7 +245,6 @@ impl<A: Allocator + Copy> Rows<A> {
     }
 
     // Sets the read locks in a client's row, which is at `place`.
-    #[inline(always)]
     fn set(&mut self, place: usize, client: u64, reads: u8)
         requires place { place ≡ place_in self.old client }
         requires there { IsSome (lookup (is_at (nat_cmp client)) self.old) }
@@ -265,7 +257,6 @@ impl<A: Allocator + Copy> Rows<A> {
     }
 
     /// Adds a read lock to a client's row, and returns how many it had before.
-    #[inline(always)]
     pub(crate) fn add_read(&mut self, client: u64) -> u8
         requires few { IfSome (lookup (is_at (nat_cmp client)) self.old) (λ reads. reads < 255) }
         requires there { IsSome (lookup (is_at (nat_cmp client)) self.old) }
@@ -284,7 +275,6 @@ impl<A: Allocator + Copy> Rows<A> {
     }
 
     /// Removes a read lock from a client's row, and returns how many it had before.
-    #[inline(always)]
     pub(crate) fn take_read(&mut self, client: u64) -> u8
         requires some { IfSome (lookup (is_at (nat_cmp client)) self.old) (λ reads. 0 < reads) }
         requires there { IsSome (lookup (is_at (nat_cmp client)) self.old) }

@@ -108,7 +108,6 @@ impl<A: Allocator + Copy> State<A> {
     }
 
     /// Returns the answers that the entries from a place on gave, in order.
-    #[inline(always)]
     pub fn answers_since(&self, place: u64) -> LoggedAnswers<'_>
         requires { AreTables self.now }
         ensures { map (λ a. (logged a).1) result ≡ answers_in

@@ -20,7 +20,6 @@ use std::alloc::Allocator;
 
 // Returns the clock of a call. If the call is known to be an arrival, nothing more is looked up.
 // [XSH pthread_mutex_clocklock]
-#[inline(always)]
 fn clock_of_arrival(call: &Call) -> Clock
     ensures { result ≡ clock_meant call.now }
 {
@@ -33,7 +32,6 @@ fn clock_of_arrival(call: &Call) -> Clock
 impl<A: Allocator + Copy> State<A> {
     /// Pushes the Trip of a full barrier: the calls that wait there are answered, and they leave
     /// its queue.  [XSH pthread_barrier_wait]
-    #[inline(always)]
     pub fn push_trip<Q: WaitList>(&mut self, b: ObjectId, queues: &mut Q)
         requires ready { IsReadyFor self.old (entry.Trip b) }
         requires arrived { AreArrivals (past self.old) b ((Q.seen queues.old).queue b) }
@@ -51,7 +49,6 @@ impl<A: Allocator + Copy> State<A> {
     }
 
     /// Pushes an arrival at a barrier.  [XSH pthread_barrier_wait]
-    #[inline(always)]
     pub fn push_arrival(&mut self, c: ClientId, call: &Call, n: &Name, object: Option<ObjectId>)
         requires ready { IsReadyFor self.old (entry.Call c call.now None) }
         requires operation { operation call.now ≡ Arrives n.now }

@@ -128,7 +128,6 @@ impl<A: Allocator + Copy> State<A> {
     }
 
     /// Returns a client's call as an open call that is entered now and has not been moved.
-    #[inline(always)]
     pub fn entered(
         &self,
         c: ClientId,

@@ -61,7 +61,6 @@ impl<A: Allocator + Copy> State<A> {
     }
 
     /// Returns the priority of a client, or None if it does not live.  [XSH 2.8.4]
-    #[inline(always)]
     pub fn priority(&self, c: ClientId) -> Option<Priority>
         requires { AreTables self.now }
         ensures { result ≡ client (past self.now) c }
@@ -73,7 +72,6 @@ impl<A: Allocator + Copy> State<A> {
     }
 
     /// Returns the priority of a client, or 0 if it does not live.  [XSH 2.8.4]
-    #[inline(always)]
     pub fn priority_of(&self, c: ClientId) -> u64
         requires { AreTables self.now }
         ensures { result ≡ unwrap_or (client (past self.now) c) 0 }

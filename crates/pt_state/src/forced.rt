@@ -51,7 +51,6 @@ impl<A: Allocator + Copy> State<A> {
 
     /// Pushes the Grant of an open call for a read-write lock, and gives the call the lock.
     /// [XSH pthread_rwlock_unlock]
-    #[inline(always)]
     pub fn push_granted(&mut self, found: &Open)
         requires ready { IsReadyFor self.old (service (past self.old) (called found.now)) }
         requires known { In found.now (opens_of self.old.clients) }

@@ -151,7 +151,6 @@ impl<A: Allocator + Copy> State<A> {
     /// Returns ENOMEM if there is no memory for its client's row in the lock; then nothing is
     /// pushed.
     /// [XSH pthread_rwlock_rdlock]
-    #[inline(always)]
     pub fn push_had_read(&mut self, c: ClientId, call: &Call, r: ObjectId) -> Result<(), Refusal>
         requires ready { IsReadyFor self.old (entry.Call c call.now None) }
         requires had { (o : Open) × IsHad self.old c call.now ForRead r o }
@@ -168,7 +167,6 @@ impl<A: Allocator + Copy> State<A> {
 
     /// Pushes the entry of a call for a write lock that is granted as it comes, and its Grant.
     /// [XSH pthread_rwlock_wrlock]
-    #[inline(always)]
     pub fn push_had_write(&mut self, c: ClientId, call: &Call, r: ObjectId)
         requires ready { IsReadyFor self.old (entry.Call c call.now None) }
         requires had { (o : Open) × IsHad self.old c call.now ForWrite r o }

@@ -107,7 +107,6 @@ impl<A: Allocator + Copy> State<A> {
 
     /// Pushes the Grant of a call for a mutex: it gets the mutex, or learns that the mutex is not
     /// recoverable. Returns what the call gets.  [XSH pthread_mutex_lock]
-    #[inline(always)]
     pub fn push_grant_mutex(&mut self, found: &Open, m: ObjectId) -> Had
         requires ready { IsReadyFor self.old (entry.Grant found.now.call.place
             (grant_outcome_in (past self.old) (called found.now))) }

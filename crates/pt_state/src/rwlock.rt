@@ -58,7 +58,6 @@ impl<A: Allocator + Copy> State<A> {
     }
 
     /// Pushes the Grant of a call for a read lock.  [XSH pthread_rwlock_rdlock]
-    #[inline(always)]
     pub(crate) fn push_grant_read(&mut self, found: &Open)
         requires ready { IsReadyFor self.old (entry.Grant found.now.call.place
             (grant_outcome_in (past self.old) (called found.now))) }
@@ -73,7 +72,6 @@ impl<A: Allocator + Copy> State<A> {
     }
 
     /// Pushes the Grant of a call for a write lock.  [XSH pthread_rwlock_wrlock]
-    #[inline(always)]
     pub(crate) fn push_grant_write(&mut self, found: &Open)
         requires ready { IsReadyFor self.old (entry.Grant found.now.call.place
             (grant_outcome_in (past self.old) (called found.now))) }
@@ -88,7 +86,6 @@ impl<A: Allocator + Copy> State<A> {
     }
 
     /// Returns the read-write lock with this number, if the object is a read-write lock.
-    #[inline(always)]
     pub fn rwlock_at(&self, r: ObjectId) -> Option<&Holders<A>>
         ensures { option_copied result ≡ rwlock_in (object_value self.now.objects r) }
     {
@@ -99,7 +96,6 @@ impl<A: Allocator + Copy> State<A> {
     }
 
     /// Returns the read-write lock that a name refers to, with its number, if there is one.
-    #[inline(always)]
     pub fn rwlock_found(
         &self,
         n: &Name,

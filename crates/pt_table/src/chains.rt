@@ -80,7 +80,6 @@ impl<T, A: Allocator + Copy> Objects<T, A> {
 
     /// Puts a row first in the chain of a head, or begins a chain with it, and returns the new
     /// head.
-    #[inline(always)]
     pub fn link(&mut self, head: Option<u64>, number: u64) -> u64
         requires chain { HasChain self.old head }
         requires row { has_object self.old number ≡ true }

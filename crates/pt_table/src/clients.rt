@@ -178,7 +178,6 @@ impl<T, A: Allocator + Copy> Clients<T, A> {
     }
 
     /// Does what `nth` does, and also returns the slot of the client's row, for `at_mut_near`.
-    #[inline(always)]
     pub fn nth_in_slot(&self, index: usize) -> Option<(usize, u64, &T)>
         ensures number { option_map (λ p. p.1) result ≡ nth_number self.now index }
         ensures value { option_map (λ p. p.2.now) result ≡ nth_value self.now index }
@@ -259,7 +258,6 @@ impl<T, A: Allocator + Copy> Clients<T, A> {
     }
 
     // Returns this slot if a client's row is in it.
-    #[inline(always)]
     fn its_slot(&self, slot: usize, number: u64) -> Option<usize>
         ensures { OnSome result (IsSome (client_at self.now number)) }
     {
@@ -268,7 +266,6 @@ impl<T, A: Allocator + Copy> Clients<T, A> {
 
     /// Returns a mutable reference to the value of the client with this number, if there is one.
     /// This slot is tried first, and need not be the right one.
-    #[inline(always)]
     pub fn at_mut_near(&mut self, slot: usize, number: u64) -> Option<&mut T>
         ensures* lends { sem 𝓛 (lends_if_at T.row A.row A.Allocator self.entry number result) }
         ensures value { option_copied_mut result ≡ client_value self.old number }

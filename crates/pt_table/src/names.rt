@@ -77,7 +77,6 @@ impl<A: Allocator + Copy> Names<A> {
     }
 
     /// Returns whether others of the names of a name's cell may be in the map.
-    #[inline(always)]
     pub(crate) fn is_shared(&self, name: &Name) -> bool
         ensures { result ≡ is_shared self.now.cells name.now }
     {
@@ -105,7 +104,6 @@ impl<A: Allocator + Copy> Names<A> {
     }
 
     /// Makes room for a name whose row will lie in this slot, given the index of the name's cell.
-    #[inline(always)]
     pub(crate) fn reserve_for(
         &mut self,
         name: &Name,
@@ -139,7 +137,6 @@ impl<A: Allocator + Copy> Names<A> {
     }
 
     /// Adds a name with its slot, given the index of the name's cell. There must be room for it.
-    #[inline(always)]
     pub(crate) fn insert(&mut self, name: &Name, place: usize, slot: usize)
         requires place { place ≡ place_of name.now }
         requires room { CanFile self.old name.now slot }

@@ -79,7 +79,6 @@ fn entry_at(entries: &[Listed], index: usize) -> Option<Listed>
 }
 
 // Returns whether the entry at an index has this number and is not struck out.
-#[inline(always)]
 fn is_left_at(entries: &[Listed], index: usize, number: u64) -> bool
     ensures there { OnTrue result (IsLeftAt entries.now number index) }
     ensures other { OnFalse result (IsLeftAt entries.now number index → ⊥) }
@@ -142,7 +141,6 @@ fn index_far(entries: &[Listed], rises: bool, number: u64) -> Option<usize>
 }
 
 // Returns the index of a number. The given index is tried first.
-#[inline(always)]
 fn index_of(entries: &[Listed], hint: usize, rises: bool, number: u64) -> Option<usize>
     requires { OnTrue rises (Rises entries.now) }
     ensures found { IfSome result (IsLeftAt entries.now number) }

@@ -184,7 +184,6 @@ pub(crate) fn take_named<T, A: Allocator + Copy>(
 }
 
 // Makes room for one more row with its name, given the index of the name's cell.
-#[inline(always)]
 pub(crate) fn make_room_named<T, A: Allocator + Copy>(
     rows: &mut Slab<ObjectRow<T>, A>,
     numbers: &mut Numbers<A>,

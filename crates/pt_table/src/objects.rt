@@ -259,7 +259,6 @@ impl<T, A: Allocator + Copy> Objects<T, A> {
 
     // Sets the next number and slot in the link of an object's row to those of another link. The
     // given slot is tried first.
-    #[inline(always)]
     pub(crate) fn set_next_near(&mut self, slot: usize, number: u64, link: Link)
         requires { IsSome (object_at self.old number) }
         ensures { (its : Link) → link_of self.old number ≡ Some its
@@ -271,7 +270,6 @@ impl<T, A: Allocator + Copy> Objects<T, A> {
 
     // Sets the previous number and slot in the link of an object's row to those of another link.
     // The given slot is tried first.
-    #[inline(always)]
     pub(crate) fn set_before_near(&mut self, slot: usize, number: u64, link: Link)
         requires { IsSome (object_at self.old number) }
         ensures { (its : Link) → link_of self.old number ≡ Some its

@@ -78,7 +78,6 @@ pub(crate) fn slot_of<R, A: Allocator + Copy>(
 }
 
 // Makes room for one more row.
-#[inline(always)]
 pub(crate) fn make_room<R, A: Allocator + Copy>(
     rows: &mut Slab<R, A>,
     numbers: &mut Numbers<A>,
@@ -93,7 +92,6 @@ pub(crate) fn make_room<R, A: Allocator + Copy>(
 }
 
 // Adds a row with a new number, and returns its slot. There must be room for it.
-#[inline(always)]
 pub(crate) fn put<R, A: Allocator + Copy>(
     rows: &mut Slab<R, A>,
     numbers: &mut Numbers<A>,

@@ -30,7 +30,6 @@ impl SlotHints {
     }
 
     /// Notes the slot of the row with a key, if the slot fits 16 bits.
-    #[inline(always)]
     pub(crate) fn set(&mut self, key: u64, slot: usize) {
         if let Ok(slot) = u16::try_from(slot) {
             self.slots[key as usize % COUNT] = slot;

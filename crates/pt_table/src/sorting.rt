@@ -27,7 +27,6 @@ fn sort_numbers(numbers: &mut [u64])
 }
 
 // Returns the number before this index, if there is one.
-#[inline(always)]
 fn number_ahead(numbers: &[u64], i: usize) -> Option<u64>
     requires { i < length numbers.now }
     ensures { result ≡ last_number (take i numbers.now) }

@@ -31,7 +31,6 @@ impl Model for StoredLink {
 }
 
 // Returns the number if `there` is true.
-#[inline(always)]
 fn number_if(there: bool, number: u64) -> Option<u64>
     ensures { result ≡ if there then Some number else None }
 {
@@ -40,7 +39,6 @@ fn number_if(there: bool, number: u64) -> Option<u64>
 
 impl StoredLink {
     // Converts a link to the form in which it is stored.
-    #[inline(always)]
     pub(crate) fn of(link: Link) -> Self
         ensures { result ≡ link }
     {
@@ -56,7 +54,6 @@ impl StoredLink {
     }
 
     // Returns the link that is stored.
-    #[inline(always)]
     pub(crate) fn get(&self) -> Link
         ensures { result ≡ self.now }
     {
@@ -70,7 +67,6 @@ impl StoredLink {
     }
 
     // Sets the next number and slot to those of another link, and leaves the rest unchanged.
-    #[inline(always)]
     pub(crate) fn set_next(&mut self, link: Link)
         ensures { self.new
             ≡ record self.old { next = link.next; next_slot = link.next_slot } }
@@ -81,7 +77,6 @@ impl StoredLink {
     }
 
     // Sets the previous number and slot to those of another link, and leaves the rest unchanged.
-    #[inline(always)]
     pub(crate) fn set_before(&mut self, link: Link)
         ensures { self.new
             ≡ record self.old { before = link.before; before_slot = link.before_slot } }

@@ -31,7 +31,6 @@ impl Ord for TimerKey {
 
     ghost matches_eq = { Prim.search (comparing, rules) };
 
-    #[inline(always)]
     fn cmp(&self, other: &TimerKey) -> Ordering {
         let by_place = other.place.cmp(&self.place);
         other.nanos.cmp(&self.nanos).then(by_place)

@@ -35,7 +35,6 @@ pub(crate) fn is_key(found: &Option<TimerKey>, key: &TimerKey) -> bool
 }
 
 /// Makes room for `additional` more keys. Returns ENOMEM if the growth is refused.
-#[inline(always)]
 pub(crate) fn reserve<A: Allocator + Copy>(
     keys: &mut BinaryHeap<TimerKey, A>,
     additional: usize,
@@ -50,7 +49,6 @@ pub(crate) fn reserve<A: Allocator + Copy>(
 }
 
 /// Adds a key. Returns ENOMEM if the growth is refused, and then changes nothing.
-#[inline(always)]
 pub(crate) fn push<A: Allocator + Copy>(
     keys: &mut BinaryHeap<TimerKey, A>,
     key: &TimerKey,

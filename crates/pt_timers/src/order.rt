@@ -84,7 +84,6 @@ impl<A: Allocator + Copy> Order<A> {
 }
 
 // Adds a key, and leaves room for all keys to be canceled.
-#[inline(always)]
 fn insert<A: Allocator + Copy>(
     keys: &mut BinaryHeap<TimerKey, A>,
     canceled: &mut BinaryHeap<TimerKey, A>,

@@ -17,7 +17,6 @@ const FEW: usize = 64;
 
 // Removes one key if the first canceled key is not due after the first key: the first key if the
 // two are equal, or else the canceled one, which no key equals. Returns whether a key was removed.
-#[inline(always)]
 fn drop_stale<A: Allocator + Copy>(
     keys: &mut BinaryHeap<TimerKey, A>,
     canceled: &mut BinaryHeap<TimerKey, A>,
@@ -120,7 +119,6 @@ fn compact<A: Allocator + Copy>(
 
 /// Removes all canceled keys if they are more than `FEW` and more than three in four, and there is
 /// memory to do so.
-#[inline(always)]
 pub(crate) fn compact_if_sparse<A: Allocator + Copy>(
     keys: &mut BinaryHeap<TimerKey, A>,
     canceled: &mut BinaryHeap<TimerKey, A>,

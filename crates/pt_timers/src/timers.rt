@@ -116,7 +116,6 @@ impl<A: Allocator + Copy> Timers<A> {
     }
 
     // Returns the first of a clock's deadlines, if the clock has reached it.
-    #[inline(always)]
     fn first_due(&self, clock: Clock, now: Option<Moment>) -> Option<TimerKey>
         ensures { IsFirstDue self.now clock now result }
     {
@@ -143,7 +142,6 @@ impl<A: Allocator + Copy> Timers<A> {
     /// Returns the place that is due, with the client that was set with it. Among the deadlines at
     /// or before the moment of their own clock, it has the least, whichever the clock. Among equal
     /// ones, it is the least place.  [XSH pthread_mutex_clocklock; the order is profile]
-    #[inline(always)]
     pub fn least_due(&self, real: Option<Moment>, mono: Option<Moment>) -> Option<(u64, ClientId)>
         ensures { IsLeastDue self.now (moments real mono) (option_map (λ due. due.0) result) }
     {
