@@ -71,10 +71,10 @@ fn serve_two(rt: HostRuntime) -> Result<(), Fail> {
 // Runs a client that sends more lines at once than may wait. Returns true if each is answered.
 fn sends_ahead<R: Files + Net + Clock>(rt: &R, alloc: Global, path: &str) -> io::Result<bool> {
     let mut client = Client::connect(rt, path)?;
-    let lines = "signal c\n".repeat(alloc, 48)?;
+    let lines = "signal c\n".repeat(alloc, 80)?;
     client.send(lines.as_bytes())?;
     let mut is_right = true;
-    for n in 1u32..49 {
+    for n in 1u32..81 {
         let answer = format!(in alloc; "{n} NOHELLO\n")?;
         is_right &= client.hears(alloc, answer.as_bytes())?;
     }
