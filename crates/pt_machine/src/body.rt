@@ -101,6 +101,13 @@ impl<Q: WaitList, A: Allocator + Copy> Body<Q, A> {
         Ok(())
     }
 
+    /// Returns the tables, to be read.
+    pub fn state(&self) -> &State<A>
+        ensures { result.now ≡ self.now }
+    {
+        &self.state
+    }
+
     /// Returns the place of a client's open call, if it has one.
     pub fn open_place(&self, c: ClientId) -> Option<u64>
         requires { AreTables self.now }

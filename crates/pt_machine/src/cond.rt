@@ -202,7 +202,7 @@ impl<Q: WaitList, A: Allocator + Copy> Body<Q, A> {
     /// Returns the mutex with which calls wait at the condition, if some do.
     /// [XSH pthread_cond_wait]
     #[inline(never)]
-    pub(crate) fn bound(&self, q: ObjectId) -> Option<ObjectId>
+    pub fn bound(&self, q: ObjectId) -> Option<ObjectId>
         requires read { AreTables self.now }
         requires cond { kind_of (past self.now) q ≡ Some kind.Cond }
         ensures { result ≡ bound_by (waiting_at (past self.now) q) }

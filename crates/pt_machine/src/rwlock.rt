@@ -22,7 +22,7 @@ use std::alloc::Allocator;
 impl<Q: WaitList, A: Allocator + Copy> Body<Q, A> {
     /// Returns whether a writer of the client's priority or a higher one waits at the lock. A
     /// client that does not live has priority 0.  [XSH pthread_rwlock_rdlock]
-    pub(crate) fn is_blocked(&self, r: ObjectId, c: ClientId) -> bool
+    pub fn is_blocked(&self, r: ObjectId, c: ClientId) -> bool
         requires { AreTables self.now }
         ensures { result
             ≡ is_blocked_in (past self.now) r (unwrap_or (client (past self.now) c) 0) }
