@@ -61,7 +61,7 @@ fn push_changed<Q: WaitList, A: Allocator + Copy>(
         // None of these comes here: waits and arrivals are never answered 0 at once, and the others
         // make an object.
         Operation::Awaits(..) | Operation::Arrives(_) | Operation::Makes(..) => {
-            state.finish_seldom(c, call, Outcome::Done)
+            state.finish_long(c, call, Outcome::Done)
         }
     }
 }

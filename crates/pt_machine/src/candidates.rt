@@ -195,16 +195,6 @@ impl<Q: WaitList, A: Allocator + Copy> Body<Q, A> {
         }
     }
 
-    // Does what `service_at` does. It is not inlined.
-    #[cold]
-    #[inline(never)]
-    fn service_apart(&self, o: ObjectId) -> Option<Service>
-        requires { AreTables self.now }
-        ensures { IsService (past self.now) (candidate_in (past self.now) o) result }
-    {
-        self.service_at(o)
-    }
-
     /// Does what `service_at` does, for an object that is a barrier.  [XSH pthread_barrier_wait]
     pub(crate) fn arrival_service(&self, b: ObjectId) -> Option<Service>
         requires { AreTables self.now }
@@ -212,7 +202,7 @@ impl<Q: WaitList, A: Allocator + Copy> Body<Q, A> {
     {
         match self.state.objects.at(b.0)? {
             Object::Barrier(barrier) => self.barrier_service(b, barrier),
-            _ => self.service_apart(b),
+            _ => self.service_at(b),
         }
     }
 }

@@ -377,16 +377,4 @@ impl<Q: WaitList, A: Allocator + Copy> Body<Q, A> {
             at_once: self.is_at_once(event, &operation, answer, &request),
         }
     }
-
-    /// Does what `plan` does, for events that come seldom. It is not inlined.  [profile]
-    #[cold]
-    #[inline(never)]
-    pub fn plan_seldom(&self, event: &Event) -> Plan
-        requires read { AreTables self.now }
-        requires step { Step (past self.now) (entry_for (past self.now) event.now) }
-        ensures planned { IsPlanned (past self.now) event.now result }
-        ensures small { result.need ≤ 8195 }
-    {
-        self.plan(event)
-    }
 }

@@ -116,7 +116,7 @@ impl<Q: WaitList, A: Allocator + Copy> Body<Q, A> {
         ensures reason { IfErr result (λ refusal. refusal ≡ Refusal.Enomem) }
     {
         let before = self.seal_with_room(room)?;
-        let plan = self.plan_seldom(event);
+        let plan = self.plan(event);
         match self.push_outer(event, &plan) {
             Ok(()) => Ok(before.unsealed),
             Err(refusal) => {

@@ -123,7 +123,7 @@ impl<Q: WaitList, A: Allocator + Copy> Body<Q, A> {
             result ≡ is_over_in self.now.stored.limit (h ▷ entry_for h event.now) }
     {
         let held = self.state.stored.held();
-        (self.state.stored.limit() as u64) < held + 1 + self.plan_seldom(event).need
+        (self.state.stored.limit() as u64) < held + 1 + self.plan(event).need
     }
 
     /// Returns the first refusal that applies without a seal, if there is one. Lack of memory is

@@ -117,16 +117,6 @@ impl<A: Allocator + Copy> State<A> {
         self.stored.push_call(c, call, Some(outcome));
     }
 
-    /// Does what `finish` does, for any call that is rarely answered this way. It is not inlined.
-    #[cold]
-    #[inline(never)]
-    pub fn finish_seldom(&mut self, c: ClientId, call: &Call, outcome: Outcome)
-        requires { IsNearly self.old c call.now (Some outcome) }
-        ensures { Adds self.old (entry.Call c call.now (Some outcome)) self.new }
-    {
-        self.finish_long(c, call, outcome);
-    }
-
     /// Returns a client's call as an open call that is entered now and has not been moved.
     pub fn entered(
         &self,

@@ -113,15 +113,6 @@ impl<A: Allocator + Copy> State<A> {
         }
     }
 
-    // Does what `find` does, for a caller that is already large. It is not inlined.
-    #[inline(never)]
-    pub(crate) fn find_apart(&self, n: &Name, class: ObjectClass) -> Option<ObjectId>
-        requires { AreTables self.now }
-        ensures { result ≡ find_in (past self.now) n.now class }
-    {
-        self.find(n, class)
-    }
-
     /// Returns the verdict of a call that makes an object.  [XSH pthread_mutex_init]
     #[inline(always)]
     pub fn makes_verdict(&self, n: &Name, kind: ObjectKind) -> Verdict

@@ -79,7 +79,7 @@ impl<A: Allocator + Copy> State<A> {
         ensures { result ≡ mutex_meant (past self.now) (shown_operation operation.now) }
     {
         match operation {
-            Operation::Awaits(_, m, _) => self.find_apart(m, ObjectClass::Mutex),
+            Operation::Awaits(_, m, _) => self.find(m, ObjectClass::Mutex),
             _ => None,
         }
     }

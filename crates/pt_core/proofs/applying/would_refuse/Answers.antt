@@ -7,8 +7,8 @@ use Rattle.pt_core.proofs.SealNeeds.{planned-seal, refused-sealed}
 use Rattle.pt_core.proofs.SealedCores.{settled}
 use Rattle.pt_core.proofs.applying.would_refuse.Goals as goal
 
-pub plan_seldom-requires-clause-step : goal.plan_seldom-requires-clause-step
-plan_seldom-requires-clause-step g c =
+pub plan-requires-clause-step : goal.plan-requires-clause-step
+plan-requires-clause-step g c =
     let s = c.args.body.now in
     step-event (past s) c.args.event.now (settled s c.requires)
     (sym c.refusal.ensures ∙ c.in_default.is)
@@ -20,8 +20,8 @@ pub returns-then-needs_seal : goal.returns-then-needs_seal
 returns-then-needs_seal g c =
     let s = c.args.body.now in
     let v = c.args.event.now in
-    let needs = sym (planned-seal s.stored.limit (past s) v c.plan_seldom.result.need
-    c.needs_seal.result c.plan_seldom.ensures.planned.needs c.needs_seal.ensures)
+    let needs = sym (planned-seal s.stored.limit (past s) v c.plan.result.need
+    c.needs_seal.result c.plan.ensures.planned.needs c.needs_seal.ensures)
     ∙ c.if-needs_seal.true in
     c.refusal_of_seal.ensures
     ∙ refused-sealed s.stored.limit (past s) v (sym c.in_default.ensures) needs c.len.result
@@ -31,7 +31,7 @@ pub returns : goal.returns
 returns g c =
     let s = c.args.body.now in
     let v = c.args.event.now in
-    let none = sym (planned-seal s.stored.limit (past s) v c.plan_seldom.result.need
-    c.needs_seal.result c.plan_seldom.ensures.planned.needs c.needs_seal.ensures)
+    let none = sym (planned-seal s.stored.limit (past s) v c.plan.result.need
+    c.needs_seal.result c.plan.ensures.planned.needs c.needs_seal.ensures)
     ∙ c.if-needs_seal.false in
     c.refusal_within.ensures ∙ sym (refused-without s.stored.limit (past s) v none)

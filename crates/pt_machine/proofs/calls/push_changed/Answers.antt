@@ -16,8 +16,8 @@ either (inl a) f g = f a
 either (inr b) f g = g b
 
 -- a wait or an arrival that is answered 0 at once, as no verdict does, changes nothing
-pub finish_seldom-requires : goal.finish_seldom-requires
-finish_seldom-requires g c =
+pub finish_long-requires : goal.finish_long-requires
+finish_long-requires g c =
     let idle = nearly-done c.args.state.now c.args.c c.args.call.now (Some told.Done)
     c.requires.ready in
     let is = sym c.operation_of.ensures in
@@ -186,16 +186,16 @@ returns-in-Broadcasts g c = record {
 
 pub returns-in-Awaits : goal.returns-in-Awaits
 returns-in-Awaits g c = record {
-  adds = c.finish_seldom.ensures;
+  adds = c.finish_long.ensures;
   queued = let is = sym c.operation_of.ensures in
       plain-queued c.args.state.now c.args.c c.args.call.now
       (g.Q.WaitList.seen c.args.queues.now).queue (g.Q.WaitList.seen c.args.queues.now).admitted
-      (g.Q.WaitList.seen c.args.queues.now).made c.requires.queued c.finish_seldom.new.self
+      (g.Q.WaitList.seen c.args.queues.now).made c.requires.queued c.finish_long.new.self
       c.requires.ready
       (ap is_plain is ∙ either c.in-Awaits.is (λ w. ap (λ d. is_plain (shown_operation d)) w.3)
       (λ other. either other (λ w. ap (λ d. is_plain (shown_operation d)) w.1)
       (λ w. absurd
       (let never : true ≡ false =
       sym (ap makes_object (is ∙ ap shown_operation w.2)) ∙ c.requires.other in cc))))
-      c.finish_seldom.ensures;
+      c.finish_long.ensures;
 }

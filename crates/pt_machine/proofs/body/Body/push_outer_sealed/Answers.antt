@@ -46,18 +46,18 @@ seal_with_room-requires-clause-places g c = c.requires.places
 pub seal_with_room-requires-clause-room : goal.seal_with_room-requires-clause-room
 seal_with_room-requires-clause-room g c = c.requires.room
 
-pub plan_seldom-plan-requires-clause-read : goal.plan_seldom-plan-requires-clause-read
-plan_seldom-plan-requires-clause-read g c = c.in_ok-before.ensures.ok.read
+pub plan-plan-requires-clause-read : goal.plan-plan-requires-clause-read
+plan-plan-requires-clause-read g c = c.in_ok-before.ensures.ok.read
 
-pub plan_seldom-plan-requires-clause-step : goal.plan_seldom-plan-requires-clause-step
-plan_seldom-plan-requires-clause-step g c =
+pub plan-plan-requires-clause-step : goal.plan-plan-requires-clause-step
+plan-plan-requires-clause-step g c =
     subst (λ (h : History). Step h (entry_for h c.args.event.now))
     (sym (past-renewed c.args.self.now c.seal_with_room.new.self c.args.room
     c.in_ok-before.ensures.ok))
     c.requires.step
 
 pub push_outer-requires-clause-planned : goal.push_outer-requires-clause-planned
-push_outer-requires-clause-planned g c = c.plan_seldom-plan.ensures.planned
+push_outer-requires-clause-planned g c = c.plan-plan.ensures.planned
 
 -- no answer is stored yet, and there is memory for as many as may come
 spare-sealed : (n room capacity : ℕ) → n ≤ room → room ≤ capacity → 0 + n ≤ capacity
