@@ -16,7 +16,7 @@ use Rattle.pt_legal.specs.Applying.{opened}
 use Rattle.pt_legal.specs.Sealing.{sealed}
 use Rattle.pt_engine.specs.declared.line_id.LineId.{LineId}
 use Rattle.pt_engine.specs.Scripts.{Script, core_of, line_id, event_of_line}
-use Rattle.pt_engine.specs.Says.{SaysOf, SaysTo, Says, counted, opened_for}
+use Rattle.pt_engine.specs.Says.{SaysOf, SaysTo, Says, counted}
 use Rattle.pt_engine.specs.Says.SaysOf.{refuses, lacks, accepts}
 use Rattle.pt_engine.specs.Engines.{Adds}
 use Rattle.pt_explain.specs.Entries.{entry_row, entry_rows, refused_row}

@@ -1,4 +1,4 @@
-use Rattle.std.proofs.Common.{◌≡◌, ◌∙◌, ◌++◌, refl, sym, ap, arith}
+use Rattle.std.proofs.Common.{◌∙◌, ◌++◌, refl, sym, ap, arith}
 use Rattle.pt_legal.specs.Cores.{shown}
 use Rattle.pt_model.proofs.Histories.{place-behind}
 use Rattle.pt_explain.specs.Entries.{entries_from, entry_row, entry_rows}

@@ -1,4 +1,4 @@
-use Rattle.std.proofs.Common.{◌≡◌, ◌-◌, ◌++◌, ◌∙◌, List, ℕ, sym}
+use Rattle.std.proofs.Common.{◌-◌, ◌∙◌, sym}
 use Rattle.pt_legal.specs.Cores.{shown}
 use Rattle.pt_explain.proofs.EntryLines.{refused_not, refused_there}
 use Rattle.pt_explain.proofs.Saying.{on_ok}

@@ -1,4 +1,4 @@
-use Rattle.std.proofs.Common.{◌≡◌, ◌≤◌, ◌∙◌, ◌++◌, ℕ, List, refl, sym, ap, subst}
+use Rattle.std.proofs.Common.{◌≤◌, ◌∙◌, ◌++◌, ℕ, List, sym, ap, subst}
 use Rattle.pt_legal.specs.Cores.{shown}
 use Rattle.pt_engine.specs.Engines.{known_by}
 use Rattle.pt_engine.specs.Scripts.{event_of_line}
