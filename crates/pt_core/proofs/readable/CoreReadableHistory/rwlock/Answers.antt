@@ -1,7 +1,0 @@
-use Rattle.std.proofs.Common.{◌∙◌, sym, subst}
-use Rattle.pt_state.specs.Reads.{AreTables}
-use Rattle.pt_core.proofs.readable.Core.rwlock.Goals as goal
-
-pub rwlock-requires : goal.rwlock-requires
-rwlock-requires g c =
-    subst AreTables (sym (c.state.ensures ∙ c.deref.ensures)) c.self.invariant.read
