@@ -71,10 +71,10 @@ impl<C: LegalHistory, A: Allocator + Copy> Engine<C, A> {
     ghost use Rattle.pt_model.specs.Clients.{is_alive};
     ghost use Rattle.pt_grammar.specs.Script.{short_read};
     ghost use Rattle.pt_legal.specs.Cores.{past, shown};
-    ghost use Rattle.pt_engine.specs.Scripts.{begun, core_of, event_for, join_for};
+    ghost use Rattle.pt_engine.specs.Scripts.{begun, core_of, event_for, event_of_line, join_for};
     ghost use Rattle.pt_engine.specs.Scripts.{entries_between_seals};
     ghost use Rattle.pt_engine.specs.Scripts.{lines_of_who, number_of, of_client, refusal_of_hello};
-    ghost use Rattle.pt_engine.specs.Says.{Says, SaysOf, SaysTo};
+    ghost use Rattle.pt_engine.specs.Says.{Says, SaysOf, SaysTo, refusal_of_event};
     ghost use Rattle.pt_engine.specs.Engines.{Adds, known_by, mark_of};
 
     /// Creates an engine over an empty core. It has read no line.
@@ -320,6 +320,31 @@ impl<C: LegalHistory, A: Allocator + Copy> Engine<C, A> {
         ensures { C.seen result.now ≡ self.now.core }
     {
         &self.core
+    }
+
+    /// Returns the event that a line would ask for, or why it would ask for none. Counts nothing.
+    pub fn event_of(&self, line: ScriptLine) -> Result<Event, Refusal>
+        ensures { result ≡ event_of_line (known_by self.now) line }
+    {
+        let ScriptLine { who, body } = line;
+        let client = self.names.client_of(&who);
+        match (&who, client, body?) {
+            (Who::Named(_), None, ScriptBody::Hello(priority)) => Ok(Event::Join(priority)),
+            (Who::Named(_), Some(c), ScriptBody::Hello(_)) => Err(self.refusal_of_hello(c)),
+            (Who::Named(_), Some(c), ScriptBody::Ask(call)) => Ok(Event::Call(c, call)),
+            (Who::Named(_), Some(c), ScriptBody::Die) => Ok(Event::Death(c)),
+            (Who::Named(_), None, ScriptBody::Ask(_)) => Err(Refusal::Nohello),
+            (Who::Named(_), None, ScriptBody::Die) => Err(Refusal::Nohello),
+            (Who::Star, _, ScriptBody::Tick(clock, moment)) => Ok(Event::Moment(clock, moment)),
+            _ => Err(Refusal::Syntax),
+        }
+    }
+
+    /// Returns why an event would be refused for a reason other than lack of memory.  [profile]
+    pub fn would_refuse(&self, event: &Event) -> Option<Refusal>
+        ensures { result ≡ refusal_of_event (known_by self.now) event.now }
+    {
+        self.core.would_refuse(event)
     }
 
     /// Counts a line, does what it asks for, and appends its answer. A refused growth for which the

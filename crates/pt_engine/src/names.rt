@@ -242,6 +242,16 @@ impl<A: Allocator + Copy> Counts<A> {
         }
     }
 
+    // Returns the number of the client that joined under this name, if one did.
+    fn client_named(&self, name: &ClientName) -> Option<ClientId>
+        ensures { result ≡ client_in (row_of self.now.rows name.now) }
+    {
+        match self.places.get(name).copied() {
+            Some(index) => self.rows[index].1.client,
+            None => None,
+        }
+    }
+
     // Stores the number of the client with this name.
     fn give(&mut self, name: &ClientName, client: ClientId)
         requires { IsSome (row_of self.old.rows name.now) }
@@ -281,6 +291,16 @@ impl<A: Allocator + Copy> Names<A> {
         ensures { result ≡ length self.now.seen }
     {
         self.total
+    }
+
+    /// Returns the number of the client that joined under a line's name, if one did.
+    pub fn client_of(&self, who: &Who) -> Option<ClientId>
+        ensures { result ≡ number_of self.now.clients who.now }
+    {
+        match who {
+            Who::Named(name) => self.counts.client_named(name),
+            _ => None,
+        }
     }
 
     /// Counts a line. A refused growth is a fault and changes nothing.

@@ -43,11 +43,11 @@ entry_text (Trip b) = applied (codes "Trip") (decimal b) []
 entry_text (Yield m) = applied (codes "Yield") (decimal m) []
 entry_text (Expire j) = applied (codes "Expire") (decimal j) []
 
--- a number, behind spaces to a width of 4
+-- a number, after spaces to a width of 4
 abbrev pub aligned : ℕ → List ℕ
 aligned n = drop (min (length (decimal n)) 4) (codes "    ") ++ decimal n
 
--- the line of an entry: a space, its place, two spaces, its text, and a newline. A trace reads a
--- line that begins with a space as a remark  [profile]
-abbrev pub entry_line : ℕ → Entry → List ℕ
-entry_line place e = 32 ∷ aligned place ++ codes "  " ++ entry_text e ++ 10 ∷ []
+-- an entry with its place: a space, the place, two spaces, and its text. A trace reads a line that
+-- begins with a space as a remark  [profile]
+abbrev pub placed_entry : ℕ → Entry → List ℕ
+placed_entry place e = 32 ∷ aligned place ++ codes "  " ++ entry_text e

@@ -1,7 +1,7 @@
 ghost use Rattle.std.specs.Prelude.{◌≡◌, ◌++◌, ◌∷◌, [], codes, decimal, OnOk, OnErr, IfErr};
 ghost use Rattle.pt_types.specs.Limits.{second};
 ghost use Rattle.pt_entries.specs.EntryTexts.{aligned, applied, clock_word as clock_text};
-ghost use Rattle.pt_entries.specs.EntryTexts.{entry_line, entry_text, reply_word as reply_text};
+ghost use Rattle.pt_entries.specs.EntryTexts.{entry_text, placed_entry, reply_word as reply_text};
 
 use crate::appending::{put, put_number};
 use crate::calls::write_call;
@@ -146,14 +146,14 @@ pub fn write_entry<A: Allocator + Copy>(out: &mut Vec<u8, A>, entry: &Entry) -> 
     put(out, &text)
 }
 
-/// Appends the line of the entry at a place, which a trace reads as a remark. Returns ENOMEM if a
-/// growth was refused. Nothing is appended then.  [profile]
-pub fn write_entry_line<A: Allocator + Copy>(
+/// Appends an entry with its place. Returns ENOMEM if a growth was refused. Nothing is appended
+/// then.  [profile]
+pub fn write_placed_entry<A: Allocator + Copy>(
     out: &mut Vec<u8, A>,
     place: u64,
     entry: &Entry,
 ) -> Result<(), Refusal>
-    ensures ok { OnOk result (out.new.items ≡ out.old.items ++ entry_line place entry.now) }
+    ensures ok { OnOk result (out.new.items ≡ out.old.items ++ placed_entry place entry.now) }
     ensures err { OnErr result (out.new.items ≡ out.old.items) }
     ensures why { IfErr result (λ refusal. refusal ≡ Refusal.Enomem) }
 {
@@ -162,6 +162,5 @@ pub fn write_entry_line<A: Allocator + Copy>(
     put_place(&mut text, place)?;
     put(&mut text, b"  ")?;
     put_entry(&mut text, entry)?;
-    put(&mut text, b"\n")?;
     put(out, &text)
 }

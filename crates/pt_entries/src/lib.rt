@@ -15,5 +15,5 @@ mod entries;
 mod laws;
 
 pub use calls::write_call;
-pub use entries::{write_entry, write_entry_line};
+pub use entries::{write_entry, write_placed_entry};
 pub use laws::{law_call_texts_are_read, law_entry_texts_differ};

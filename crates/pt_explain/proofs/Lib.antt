@@ -2,7 +2,11 @@
 mod EntryLines
 -- Saying: what is written for a line explains it
 mod Saying
--- Quotes: answers behind `> `, byte after byte
+-- CallsFound: the call at a place, and why a forced entry follows
+mod CallsFound
+-- Pairs: a pair is known by its parts
+mod Pairs
+-- Quotes: answers after `> `, byte after byte
 mod Quotes
 -- Tellings: explanations of lines, one after another, and how many lines there are
 mod Tellings

@@ -1,4 +1,4 @@
--- Answers behind `> `, byte after byte.
+-- Answers after `> `, byte after byte.
 use Rattle.std.proofs.Common.{◌≡◌, ◌≤◌, ◌<◌, ◌+◌, ◌==◌, ◌∙◌, ◌++◌, ◌∷◌, [], ℕ, zero, suc, List}
 use Rattle.std.proofs.Common.{Bool, true, false, cond, refl, ap, sym, length, drop, get_or}
 use Rattle.std.proofs.Common.{append_assoc, arith}

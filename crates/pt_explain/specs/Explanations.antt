@@ -1,18 +1,23 @@
 -- Explanations: what explains a line of a script, and all of them.
 use Rattle.std.specs.Prelude.{◌≡◌, ℕ, ◌-◌, ◌==◌, ◌||◌, ◌++◌, Bool, true, false, List, [], ◌∷◌}
-use Rattle.std.specs.Prelude.{codes, drop, length, slice_index, if◌then◌else◌}
+use Rattle.std.specs.Prelude.{Result, Ok, Err, codes, drop, length, slice_index, unwrap_or}
+use Rattle.std.specs.Prelude.{if◌then◌else◌}
 use Rattle.pt_grammar.specs.declared.cut.Cut.{Cut}
 use Rattle.pt_grammar.specs.declared.cut.Cut.TheVariants.{Line, Long}
 use Rattle.pt_grammar.specs.Script.{script_of}
 use Rattle.pt_model.specs.Histories.{place}
 use Rattle.pt_model.specs.declared.entry.Entry.{Entry}
+use Rattle.pt_model.specs.declared.entry.Event.{Event}
+use Rattle.pt_types.specs.declared.outcome.Refusal.{Refusal}
+use Rattle.pt_types.specs.declared.outcome.Refusal.TheVariants.{Enomem}
 use Rattle.pt_legal.specs.Cores.{past}
-use Rattle.pt_engine.specs.Scripts.{Script, core_of}
-use Rattle.pt_engine.specs.Says.{Says}
+use Rattle.pt_engine.specs.Scripts.{Script, core_of, event_of_line}
+use Rattle.pt_engine.specs.Says.{Says, refusal_of_event}
 use Rattle.pt_script.specs.Tellings.{Telling}
-use Rattle.pt_explain.specs.Entries.{entry_lines}
+use Rattle.pt_rules.specs.EventRules.{event_reason, refusal_reason}
+use Rattle.pt_explain.specs.Entries.{entry_row, entry_rows, refused_row}
 
--- answers as a trace has them, each behind `> `; the flag says whether a line begins here
+-- answers as a trace has them, each after `> `; the flag says whether a line begins here
 -- [profile]
 abbrev pub quoted : (begins : Bool) → List ℕ → List ℕ
 quoted begins [] = []
@@ -29,7 +34,7 @@ abbrev pub mark : List ℕ → List ℕ
 mark text =
     if (length text == 0) || begins_row (slice_index text 0) then codes "< " else []
 
--- a line of a script as a trace has it, behind its mark; `<` alone if it was too long  [profile]
+-- a line of a script as a trace has it, after its mark; `<` alone if it was too long  [profile]
 abbrev pub echo : Cut → List ℕ
 echo (Line text) = mark text.items ++ text.items ++ 10 ∷ []
 echo Long = codes "<" ++ 10 ∷ []
@@ -42,14 +47,32 @@ next_place s = place (past (core_of s))
 abbrev pub entries_since : Script → ℕ → List Entry
 entries_since s at = drop (at - s.start.at) s.entries
 
--- what explains a line: the line, the entries that it added to the history, each with its place,
--- the answers that a script writes for it, and an empty line
+-- why the own entry of a line's event is added, or why the line asks for no event
+abbrev pub own_reason : Script → Result Event Refusal → List ℕ × List ℕ
+own_reason s (Err why) = refusal_reason why
+own_reason s (Ok event) = event_reason (past (core_of s)) event
+
+-- why a line is refused, if it is: ENOMEM if nothing else refuses its event
+abbrev pub refused_reason : Script → Result Event Refusal → List ℕ × List ℕ
+refused_reason s (Err why) = refusal_reason why
+refused_reason s (Ok event) = refusal_reason (unwrap_or (refusal_of_event s event) Enomem)
+
+-- the rows of what a line asked for: the entries from this place on, each with its place and why it
+-- was added, or why the line was refused
+abbrev pub rows_from : Script → Result Event Refusal → Script → ℕ → List ℕ
+rows_from s asked next at =
+    refused_row (refused_reason s asked) (entries_since next at)
+    ++ entry_rows (entry_row (own_reason s asked) at (core_of next)) at (entries_since next at)
+
+-- what explains a line: the line, the entries that it added to the history, each with its place and
+-- why it was added, or why the line was refused, the answers that a script writes for it, and an
+-- empty line
 pub record Explains (s : Script) (cut : Cut) (next : Script) (text : List ℕ) : Type 0 where
   pub answers : List ℕ
   pub says : Says s (script_of cut) next answers
   pub written :
       text
-      ≡ echo cut ++ entry_lines (next_place s) (entries_since next (next_place s))
+      ≡ echo cut ++ rows_from s (event_of_line s (script_of cut)) next (next_place s)
       ++ quoted true answers ++ 10 ∷ []
 
 -- what explains lines, one after another

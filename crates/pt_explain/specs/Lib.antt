@@ -1,4 +1,6 @@
--- Entries: the lines of the entries that a script's line added
+-- Rows: the rows of an explanation, with a reason and its source
+pub mod Rows
+-- Entries: the rows of the entries that a script's line added
 pub mod Entries
 -- Explanations: what is written to explain a line of a script
 pub mod Explanations

@@ -8,7 +8,8 @@ use pt_engine::ScriptFault;
 use pt_lines::Cut;
 use std::alloc::Allocator;
 
-fn put<A: Allocator + Copy>(out: &mut Vec<u8, A>, bytes: &[u8]) -> Result<(), ScriptFault>
+/// Appends bytes.
+pub fn put<A: Allocator + Copy>(out: &mut Vec<u8, A>, bytes: &[u8]) -> Result<(), ScriptFault>
     ensures ok { OnOk result (out.new.items ≡ out.old.items ++ bytes.now) }
     ensures why { IfErr result (λ fault. fault ≡ ScriptFault.Memory) }
 {
@@ -62,7 +63,7 @@ pub fn put_line<A: Allocator + Copy>(out: &mut Vec<u8, A>, cut: &Cut) -> Result<
     put_byte(out, b'\n')
 }
 
-/// Appends answers as a trace has them, each behind `> `.
+/// Appends answers as a trace has them, each after `> `.
 pub fn put_quoted<A: Allocator + Copy>(
     out: &mut Vec<u8, A>,
     answers: &[u8],

@@ -1,47 +1,158 @@
-//! The entries that a line added.
+//! The entries that a line added, each with its reason.
 
-ghost use Rattle.std.specs.Prelude.{◌≡◌, ◌≤◌, ◌++◌, OnOk, IfErr};
+ghost use Rattle.std.specs.Prelude.{◌≡◌, ◌≤◌, ◌==◌, ◌-◌, ◌++◌, OnOk, IfOk, IfErr};
 ghost use Rattle.pt_legal.specs.Cores.{shown};
-ghost use Rattle.pt_entries.specs.EntryTexts.{entry_line};
-ghost use Rattle.pt_explain.specs.Entries.{entries_from, entry_lines};
+ghost use Rattle.pt_entries.specs.EntryTexts.{placed_entry};
+ghost use Rattle.pt_explain.specs.Entries.{call_at as call_there, call_in, entries_from, entry_row};
+ghost use Rattle.pt_explain.specs.Entries.{entry_rows, follows_by, place_of_call as place_meant};
+ghost use Rattle.pt_explain.specs.Entries.{reason_at as reason_there, refused_row};
+ghost use Rattle.pt_explain.specs.Rows.{row};
 
+use crate::rows::put_row;
 use pt_engine::ScriptFault;
-use pt_entries::write_entry_line;
+use pt_entries::write_placed_entry;
 use pt_legal::LegalHistory;
 use pt_model::Entry;
+use pt_rules::{Reason, forced_reason};
+use pt_types::Call;
 use std::alloc::Allocator;
 
-// Appends the line of the entry at a place.
-fn put_entry<A: Allocator + Copy>(
-    out: &mut Vec<u8, A>,
+// Returns the call of an entry, if it is one.
+fn call_of(entry: Option<Entry>) -> Option<Call>
+    ensures { result ≡ call_in entry }
+{
+    match entry {
+        Some(Entry::Call(_, call, _)) => Some(call),
+        _ => None,
+    }
+}
+
+// Returns the call at a place, if its entry came since the history was last sealed.
+fn call_at<C: LegalHistory>(core: &C, place: u64) -> Option<Call>
+    ensures { result ≡ call_there (shown (C.seen core.now)) place }
+{
+    call_of(core.entry(place))
+}
+
+// Returns the place of the call that a Grant or an Expire is of, and 0 for other entries.
+fn place_of_call(entry: &Entry) -> u64
+    ensures { result ≡ place_meant entry.now }
+{
+    match entry {
+        Entry::Grant(place, _) => *place,
+        Entry::Expire(place) => *place,
+        _ => 0,
+    }
+}
+
+// Returns whether a place comes next after another.
+fn is_next(of: u64, place: u64) -> bool
+    ensures { result ≡ (place - 1 == of) }
+{
+    place.saturating_sub(1) == of
+}
+
+// Returns why a forced entry must follow, which is at this place.
+fn follow_reason<C: LegalHistory>(core: &C, place: u64, entry: &Entry) -> Reason
+    ensures words { result.words.now
+        ≡ (follows_by (shown (C.seen core.now)) place entry.now).0 }
+    ensures source { result.source.now
+        ≡ (follows_by (shown (C.seen core.now)) place entry.now).1 }
+{
+    let of = place_of_call(entry);
+    forced_reason(entry, &call_at(core, of), is_next(of, place))
+}
+
+// Returns why the entry at a place was added; the first is the event's own.
+fn reason_at<C: LegalHistory>(
+    own: &Reason,
+    first: u64,
+    core: &C,
     place: u64,
     entry: &Entry,
-) -> Result<(), ScriptFault>
-    ensures ok { OnOk result (out.new.items ≡ out.old.items ++ entry_line place entry.now) }
+) -> Reason
+    ensures words { result.words.now ≡ (reason_there (own.now.words.now, own.now.source.now) first
+        (shown (C.seen core.now)) place entry.now).0 }
+    ensures source { result.source.now ≡ (reason_there (own.now.words.now, own.now.source.now) first
+        (shown (C.seen core.now)) place entry.now).1 }
+{
+    if place == first {
+        *own
+    } else {
+        follow_reason(core, place, entry)
+    }
+}
+
+// Returns an entry with its place, as a row has it on the left.
+fn left_text<A: Allocator + Copy>(
+    alloc: A,
+    place: u64,
+    entry: &Entry,
+) -> Result<Vec<u8, A>, ScriptFault>
+    ensures ok { IfOk result (λ text. text.items ≡ placed_entry place entry.now) }
     ensures why { IfErr result (λ fault. fault ≡ ScriptFault.Memory) }
 {
-    match write_entry_line(out, place, entry) {
-        Ok(()) => Ok(()),
+    let mut text = Vec::new(alloc);
+    match write_placed_entry(&mut text, place, entry) {
+        Ok(()) => Ok(text),
         Err(_) => Err(ScriptFault::Memory),
     }
 }
 
-/// Appends the lines of a core's entries from a place on, and nothing else.  [profile]
+// Appends the row of the entry at a place.
+fn put_entry<A: Allocator + Copy>(
+    out: &mut Vec<u8, A>,
+    place: u64,
+    entry: &Entry,
+    reason: &Reason,
+) -> Result<(), ScriptFault>
+    ensures ok { OnOk result (out.new.items ≡ out.old.items
+        ++ row (placed_entry place entry.now) (reason.now.words.now, reason.now.source.now)) }
+    ensures why { IfErr result (λ fault. fault ≡ ScriptFault.Memory) }
+{
+    let text = left_text(*out.allocator(), place, entry)?;
+    put_row(out, &text, reason)
+}
+
+/// Appends the rows of a core's entries from a place on, and nothing else. The first is the own
+/// entry of an event, which was added for this reason.  [profile]
 pub fn put_entries<C: LegalHistory, A: Allocator + Copy>(
     out: &mut Vec<u8, A>,
     core: &C,
     from: u64,
+    own: &Reason,
 ) -> Result<(), ScriptFault>
     requires { (shown (C.seen core.now)).start.at ≤ from }
     ensures ok { OnOk result (out.new.items ≡ out.old.items
-        ++ entry_lines from (entries_from (C.seen core.now) from)) }
+        ++ entry_rows (entry_row (own.now.words.now, own.now.source.now) from
+        (shown (C.seen core.now))) from (entries_from (C.seen core.now) from)) }
     ensures why { IfErr result (λ fault. fault ≡ ScriptFault.Memory) }
 {
     let end = core.len();
     for place in from..end {
         if let Some(entry) = core.entry(place) {
-            put_entry(out, place, &entry)?;
+            let reason = reason_at(own, from, core, place, &entry);
+            put_entry(out, place, &entry, &reason)?;
         }
     }
     Ok(())
+}
+
+/// Appends the row of a refusal for this reason, if no entry was added from a place on.  [profile]
+pub fn put_refusal<C: LegalHistory, A: Allocator + Copy>(
+    out: &mut Vec<u8, A>,
+    core: &C,
+    from: u64,
+    reason: &Reason,
+) -> Result<(), ScriptFault>
+    requires { (shown (C.seen core.now)).start.at ≤ from }
+    ensures ok { OnOk result (out.new.items ≡ out.old.items
+        ++ refused_row (reason.now.words.now, reason.now.source.now)
+        (entries_from (C.seen core.now) from)) }
+    ensures why { IfErr result (λ fault. fault ≡ ScriptFault.Memory) }
+{
+    match core.entry(from) {
+        Some(_) => Ok(()),
+        None => put_row(out, b"       refused", reason),
+    }
 }

@@ -1,9 +1,11 @@
-//! Explains a script: each line, the entries that it added to the legal history, and its answers.
+//! Explains a script: each line, the entries that it added to the legal history and why each was
+//! added, or why the line was refused, and its answers.
 //!
 //! `explain` is the program `ptserver explain`. It reads, writes and reports faults as the program
 //! of `pt_script` does. Contracts say that the answers to a line are exactly those that a script
 //! writes for it, and that the entries are exactly those that the line added to the history, each
-//! at its place, even if the history is sealed for them. What is written is a trace: a line of the
+//! at its place, even if the history is sealed for them. The reason of a call's entry is the first
+//! line of its verdict table that applies. What is written is a trace: a line of the
 //! script that looks like another row of one begins with `< `, each entry is a remark, and each
 //! answer begins with `> `.
 //!
@@ -14,6 +16,8 @@ mod appending;
 mod entries;
 mod lines;
 mod program;
+mod reasons;
+mod rows;
 mod whole;
 
 pub use program::explain;

@@ -8,15 +8,17 @@ ghost use Rattle.pt_script.specs.Tellings.{AreTold, IsTold};
 ghost use Rattle.pt_explain.specs.Explanations.{Explains, explains};
 
 use crate::appending::{put_byte, put_line, put_quoted};
-use crate::entries::put_entries;
+use crate::entries::{put_entries, put_refusal};
+use crate::reasons::{own_reason, refused_reason};
 use pt_engine::{Engine, ScriptFault};
-use pt_legal::LegalHistory;
 use pt_lines::{Cut, Cutter, ScriptLine};
+use pt_readable::ReadableHistory;
 use std::alloc::Allocator;
 
-// Answers a line, and appends what explains it: the line, the entries that it added, and its
-// answers. A refused growth for which the line is not answered ENOMEM is a fault.
-fn explain_line<C: LegalHistory, A: Allocator + Copy>(
+// Answers a line, and appends what explains it: the line, the entries that it added and why, or why
+// it was refused, and its answers. A refused growth for which the line is not answered ENOMEM is a
+// fault.
+fn explain_line<C: ReadableHistory, A: Allocator + Copy>(
     engine: &mut Engine<C, A>,
     cut: &Cut,
     out: &mut Vec<u8, A>,
@@ -27,16 +29,20 @@ fn explain_line<C: LegalHistory, A: Allocator + Copy>(
     ensures why { IfErr result (λ fault. fault ≡ ScriptFault.Memory) }
 {
     let place = engine.entries();
+    let asked = engine.event_of(ScriptLine::of(cut));
+    let own = own_reason(engine, &asked);
+    let refused = refused_reason(engine, &asked);
     let mut answers = Vec::new(*out.allocator());
     engine.answer(ScriptLine::of(cut), &mut answers)?;
     put_line(out, cut)?;
-    put_entries(out, engine.core(), place)?;
+    put_refusal(out, engine.core(), place, &refused)?;
+    put_entries(out, engine.core(), place, &own)?;
     put_quoted(out, &answers)?;
     put_byte(out, b'\n')
 }
 
 // Explains the next line and returns true, if the cutter has the whole line.
-fn explain_next<C: LegalHistory, A: Allocator + Copy>(
+fn explain_next<C: ReadableHistory, A: Allocator + Copy>(
     engine: &mut Engine<C, A>,
     cutter: &mut Cutter<A>,
     out: &mut Vec<u8, A>,
@@ -59,7 +65,7 @@ fn explain_next<C: LegalHistory, A: Allocator + Copy>(
 }
 
 /// Explains all lines that the cutter has in whole.
-pub fn explain_all<C: LegalHistory, A: Allocator + Copy>(
+pub fn explain_all<C: ReadableHistory, A: Allocator + Copy>(
     engine: &mut Engine<C, A>,
     cutter: &mut Cutter<A>,
     out: &mut Vec<u8, A>,
@@ -75,7 +81,7 @@ pub fn explain_all<C: LegalHistory, A: Allocator + Copy>(
 }
 
 /// Explains the last line, if there is one that no newline ended.
-pub fn explain_last<C: LegalHistory, A: Allocator + Copy>(
+pub fn explain_last<C: ReadableHistory, A: Allocator + Copy>(
     engine: &mut Engine<C, A>,
     cutter: Cutter<A>,
     out: &mut Vec<u8, A>,

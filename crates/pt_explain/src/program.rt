@@ -10,7 +10,7 @@ ghost use Rattle.pt_explain.specs.Explanations.{explains};
 use crate::whole::explain_within;
 use pt_engine::Engine;
 use pt_io::{Sink, Source};
-use pt_legal::LegalHistory;
+use pt_readable::ReadableHistory;
 use pt_script::{MOST_READS, report, status_of};
 use std::alloc::Allocator;
 
@@ -23,7 +23,7 @@ const DONE: u8 = 0;
 /// What explains the lines of one read is written together, and flushed before the next read. The
 /// status is 0 if all lines were read and explained. A fault is reported on `errors`. The status is
 /// then 3 if the reader or the writer failed, and 5 if memory was lacking.  [profile]
-pub fn explain<C: LegalHistory, R: Source, W: Sink, E: Sink, A: Allocator + Copy>(
+pub fn explain<C: ReadableHistory, R: Source, W: Sink, E: Sink, A: Allocator + Copy>(
     core: C,
     alloc: A,
     reader: &mut R,

@@ -14,8 +14,8 @@ ghost use Rattle.pt_explain.specs.Explanations.{explains};
 use crate::lines::{explain_all, explain_last};
 use pt_engine::{Engine, ScriptFault};
 use pt_io::{Sink, Source};
-use pt_legal::LegalHistory;
 use pt_lines::Cutter;
+use pt_readable::ReadableHistory;
 use pt_script::{ScriptEnd, deliver};
 use std::alloc::Allocator;
 
@@ -23,7 +23,7 @@ use std::alloc::Allocator;
 const PIECE: usize = 4096;
 
 // Takes in a piece of the input, and writes what explains the lines that end in it.
-fn take_in<C: LegalHistory, W: Sink, A: Allocator + Copy>(
+fn take_in<C: ReadableHistory, W: Sink, A: Allocator + Copy>(
     alloc: A,
     engine: &mut Engine<C, A>,
     cutter: &mut Cutter<A>,
@@ -57,7 +57,7 @@ fn take_in<C: LegalHistory, W: Sink, A: Allocator + Copy>(
 }
 
 // Explains the last line, if there is one that no newline ended.
-fn finish<C: LegalHistory, W: Sink, A: Allocator + Copy>(
+fn finish<C: ReadableHistory, W: Sink, A: Allocator + Copy>(
     alloc: A,
     engine: &mut Engine<C, A>,
     cutter: Cutter<A>,
@@ -91,7 +91,7 @@ fn finish<C: LegalHistory, W: Sink, A: Allocator + Copy>(
 ///
 /// What explains the lines of one read is written together, and flushed before the next read.
 /// Faults are those of `pt_script`.
-pub fn explain_within<C: LegalHistory, R: Source, W: Sink, A: Allocator + Copy>(
+pub fn explain_within<C: ReadableHistory, R: Source, W: Sink, A: Allocator + Copy>(
     alloc: A,
     reads: u64,
     engine: &mut Engine<C, A>,

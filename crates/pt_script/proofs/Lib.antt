@@ -10,5 +10,7 @@ mod Noted
 mod Settled
 -- Unrefused: an event that is not refused when a seal may make room is not refused after the seal
 mod Unrefused
+-- EachTexts: what was written for lines is a text for some lack of memory
+mod EachTexts
 -- OneTexts: there is one text for all lines, and what begins the text of the first lines begins it
 mod OneTexts

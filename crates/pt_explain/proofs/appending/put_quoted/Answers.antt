@@ -1,4 +1,4 @@
-use Rattle.std.proofs.Common.{◌≡◌, ◌++◌, ◌∙◌, [], cond, refl, ap, sym, true}
+use Rattle.std.proofs.Common.{◌++◌, ◌∙◌, [], cond, refl, ap, sym, true}
 use Rattle.std.proofs.lemmas.List.{append-nil}
 use Rattle.std.specs.Prelude.{codes}
 use Rattle.pt_explain.specs.Explanations.{quoted}

@@ -1,7 +1,10 @@
-use Rattle.std.proofs.Common.{◌≡◌, ◌∙◌, ◌++◌, refl, sym, ap, arith}
+use Rattle.std.proofs.Common.{◌∙◌, ◌++◌, refl, sym, ap, arith}
 use Rattle.pt_legal.specs.Cores.{shown}
 use Rattle.pt_model.proofs.Histories.{place-behind}
-use Rattle.pt_explain.specs.Entries.{entries_from, entry_lines}
+use Rattle.pt_explain.specs.Entries.{entries_from, entry_row, entry_rows}
+use Rattle.pt_explain.specs.Rows.{row}
+use Rattle.pt_entries.specs.EntryTexts.{placed_entry}
+use Rattle.pt_explain.proofs.Pairs.{pair}
 use Rattle.pt_explain.proofs.EntryLines.{line_next, line_none, line_end}
 use Rattle.pt_explain.proofs.entries.put_entries.Goals as goal
 use Rattle.pt_explain.proofs.entries.put_entries.Goals.{in-Some+in_ok-put_entry}
@@ -16,7 +19,9 @@ loop-place-preserved g c =
     let at = (shown s).start.at in
     let place = c.loop-place.place in
     let before = c.loop-place.out.items in
-    let text = c.args.out.now.items ++ entry_lines c.args.from (entries_from s c.args.from) in
+    let own = c.args.own.now in
+    let t = entry_row (own.words.now, own.source.now) c.args.from (shown s) in
+    let text = c.args.out.now.items ++ entry_rows t c.args.from (entries_from s c.args.from) in
     let since = c.loop-place.invariant.since in
     let found = c.entry.ensures.since since in
     record {
@@ -24,13 +29,16 @@ loop-place-preserved g c =
       text =
           elim c.match-entry.branch [
             | in-Some+in_ok-put_entry w ↦
-                line_next at place s.entries w.in-Some.entry before c.match-entry.out.items text
+                line_next t at place s.entries w.in-Some.entry before c.match-entry.out.items text
                 since (sym found ∙ w.in-Some.is) c.loop-place.invariant.text
-                (ap (λ o. o.items) w.out-is ∙ w.in_ok-put_entry.ensures.ok)
+                (ap (λ o. o.items) w.out-is
+                ∙ w.in_ok-put_entry.ensures.ok
+                ∙ ap (λ r. before ++ row (placed_entry place w.in-Some.entry) r)
+                (pair w.reason_at-reason.ensures.words w.reason_at-reason.ensures.source))
             | in_default w ↦
-                line_none at place s.entries c.match-entry.out.items text since
+                line_none t at place s.entries c.match-entry.out.items text since
                 (sym found ∙ w.in_default.is)
-                (ap (λ o. o.items ++ entry_lines place (entries_from s place)) w.out-is
+                (ap (λ o. o.items ++ entry_rows t place (entries_from s place)) w.out-is
                 ∙ c.loop-place.invariant.text)
           ];
     }
@@ -38,7 +46,9 @@ loop-place-preserved g c =
 pub returns-clause-ok : goal.returns-clause-ok
 returns-clause-ok g c =
     let s = g.C.LegalHistory.seen c.args.core.now in
-    line_end (shown s).start.at c.loop-place.place s.entries c.loop-place.out.items
-    (c.args.out.now.items ++ entry_lines c.args.from (entries_from s c.args.from))
+    let own = c.args.own.now in
+    let t = entry_row (own.words.now, own.source.now) c.args.from (shown s) in
+    line_end t (shown s).start.at c.loop-place.place s.entries c.loop-place.out.items
+    (c.args.out.now.items ++ entry_rows t c.args.from (entries_from s c.args.from))
     (omega (arith, c.len-end.ensures.value, place-behind (shown s).start s.entries))
     c.loop-place.invariant.text

@@ -1,4 +1,5 @@
-use Rattle.pt_script.proofs.OneTexts.{one_text, each_text}
+use Rattle.pt_script.proofs.EachTexts.{each_text}
+use Rattle.pt_script.proofs.OneTexts.{one_text}
 use Rattle.pt_script.proofs.laws.law_one_text.Goals as goal
 
 pub returns-clause-one : goal.returns-clause-one

@@ -1,0 +1,158 @@
+//! What is read of the tables besides entries and answers.
+
+ghost use Rattle.std.specs.Prelude.{◌≡◌, is_some};
+ghost use Rattle.pt_types.specs.declared.operations.ObjectClass.TheVariants as class;
+ghost use Rattle.pt_model.specs.Clients.{clock as clock_in};
+ghost use Rattle.pt_model.specs.Objects.{find as find_in, object_named, objects as objects_in};
+ghost use Rattle.pt_rwlock.specs.RwlockState.{seen_by};
+ghost use Rattle.pt_readable.specs.Reading.{blocked_at, bound_at, busy_at, mutex_named};
+ghost use Rattle.pt_readable.specs.Reading.{reported, rwlock_named};
+ghost use Rattle.pt_state.specs.Adds.{past};
+ghost use Rattle.pt_state.specs.Reads.{AreTables};
+
+use pt_machine::Body;
+use pt_mutex::MutexObj;
+use pt_rwlock::{Held, Holders};
+use pt_state::State;
+use pt_types::operations::{ObjectClass, Operation};
+use pt_types::views::{MutexView, RwlockView};
+use pt_types::{ClientId, Clock, Moment, Name, ObjectId, Outcome, Verdict};
+use pt_waitq::WaitList;
+use std::alloc::Allocator;
+
+// Returns a mutex as its verdict tables see it.  [XSH 2.9.3]
+fn view_of(m: &MutexObj) -> MutexView
+    ensures { result ≡ m.now.seen }
+{
+    MutexView {
+        kind: m.kind(),
+        robust: m.is_robust(),
+        consistency: m.consistency(),
+        owner: m.owner(),
+        count: m.count() as u64,
+    }
+}
+
+// Returns a read-write lock as it is reported to a client.  [XSH 2.9]
+fn report<A: Allocator + Copy>(lock: &Holders<A>, c: ClientId) -> RwlockView
+    ensures { result ≡ reported (seen_by lock.now c) }
+{
+    let (writes, reads) = match lock.held_by(c) {
+        Held::Nothing => (false, 0),
+        Held::Read(reads) => (false, reads as u64),
+        Held::Write => (true, 0),
+    };
+    let is_written = lock.writer().is_some();
+    RwlockView {
+        writes,
+        reads,
+        is_written,
+        is_read: !is_written && !lock.is_free(),
+    }
+}
+
+/// Returns the object of this class that has the name, if one does.
+pub fn find<A: Allocator + Copy>(state: &State<A>, n: &Name, class: ObjectClass) -> Option<ObjectId>
+    requires { AreTables state.now }
+    ensures { result ≡ find_in (past state.now) n.now class }
+{
+    state.find(n, class)
+}
+
+/// Returns whether an object has the name.
+pub fn is_named<A: Allocator + Copy>(state: &State<A>, n: &Name) -> bool
+    requires { AreTables state.now }
+    ensures { result ≡ is_some (object_named (past state.now) n.now) }
+{
+    state.objects.find(n).is_some()
+}
+
+/// Returns the number of objects that exist.
+pub fn objects<A: Allocator + Copy>(state: &State<A>) -> usize
+    requires { AreTables state.now }
+    ensures { result ≡ objects_in (past state.now) }
+{
+    state.objects.len()
+}
+
+/// Returns the mutex that has the name, if one does.  [XSH 2.9.3]
+pub fn mutex<A: Allocator + Copy>(state: &State<A>, n: &Name) -> Option<MutexView>
+    requires { AreTables state.now }
+    ensures { result ≡ mutex_named (past state.now) n.now }
+{
+    match state.mutex_found(n, state.find(n, ObjectClass::Mutex)) {
+        Some((_, m)) => Some(view_of(m)),
+        None => None,
+    }
+}
+
+/// Returns the read-write lock that has the name, if one does, as it is reported to a client.
+/// [XSH 2.9]
+pub fn rwlock<A: Allocator + Copy>(state: &State<A>, n: &Name, c: ClientId) -> Option<RwlockView>
+    requires { AreTables state.now }
+    ensures { result ≡ rwlock_named (past state.now) n.now c }
+{
+    match state.rwlock_found(n, state.find(n, ObjectClass::Rwlock)) {
+        Some((_, lock)) => Some(report(lock, c)),
+        None => None,
+    }
+}
+
+/// Returns whether a writer of a client's priority or a higher one waits at the read-write lock
+/// that has the name, if one does.  [XSH pthread_rwlock_rdlock]
+pub fn is_blocked<Q: WaitList, A: Allocator + Copy>(
+    body: &Body<Q, A>,
+    n: &Name,
+    c: ClientId,
+) -> Option<bool>
+    requires { AreTables body.now }
+    ensures { result ≡ blocked_at (past body.now) n.now c }
+{
+    match body.state().find(n, ObjectClass::Rwlock) {
+        Some(r) => Some(body.is_blocked(r, c)),
+        None => None,
+    }
+}
+
+/// Returns the mutex with which calls wait at the condition that has the name, if some wait there.
+/// [XSH pthread_cond_wait]
+pub fn bound<Q: WaitList, A: Allocator + Copy>(
+    body: &Body<Q, A>,
+    n: &Name,
+) -> Option<Option<ObjectId>>
+    requires { AreTables body.now }
+    ensures { result ≡ bound_at (past body.now) n.now }
+{
+    match body.state().find(n, ObjectClass::Cond) {
+        Some(q) => Some(body.bound(q)),
+        None => None,
+    }
+}
+
+/// Returns whether the object of this class that has the name is in use, if one has the name.
+/// [XSH pthread_mutex_destroy]
+pub fn is_busy<Q: WaitList, A: Allocator + Copy>(
+    body: &Body<Q, A>,
+    n: &Name,
+    class: ObjectClass,
+) -> Option<bool>
+    requires { AreTables body.now }
+    ensures { result ≡ busy_at (past body.now) n.now class }
+{
+    let ends = Operation::Ends(n, class);
+    let request = body.state().request(&ends);
+    // Who makes the call doesn't matter.
+    match body.verdict(ClientId(0), &ends, &request) {
+        Verdict::Reply(Outcome::Done) => Some(false),
+        Verdict::Reply(Outcome::Ebusy) => Some(true),
+        _ => None,
+    }
+}
+
+/// Returns the greatest moment of a clock so far, if it has one.  [profile]
+pub fn reading<A: Allocator + Copy>(state: &State<A>, clock: Clock) -> Option<Moment>
+    requires { AreTables state.now }
+    ensures { result ≡ clock_in (past state.now) clock }
+{
+    state.clocks.reading(clock)
+}
