@@ -9,7 +9,7 @@ use Rattle.pt_types.specs.declared.call.Call.{Call}
 use Rattle.pt_types.specs.declared.outcome.Outcome.{Outcome as Answer}
 use Rattle.pt_types.specs.declared.outcome.Outcome.TheVariants.{Done}
 use Rattle.pt_types.specs.declared.outcome.Refusal.{Refusal as Reason}
-use Rattle.pt_types.specs.declared.outcome.Refusal.TheVariants.{Syntax, Long, Nohello}
+use Rattle.pt_types.specs.declared.outcome.Refusal.TheVariants.{Syntax, Long, Dead, Nohello}
 use Rattle.pt_grammar.specs.declared.call_line.CallLine.TheVariants.{Hello, Ask, Tick}
 use Rattle.pt_lines.specs.declared.reply.Word.{Word}
 use Rattle.pt_lines.specs.declared.reply.Word.TheVariants.{Outcome, Refusal}
@@ -66,6 +66,14 @@ has_joined xs = are_some (hellos_in xs)
 -- [profile]
 abbrev pub IsOfEvent : Reason → Type 0
 IsOfEvent r = (r ≢ Syntax) × (r ≢ Long) × (r ≢ Nohello)
+
+-- what answers a line whose event is refused for this reason. The hub refuses no event of a client
+-- that it has as a line is refused, so the first three never come  [profile]
+abbrev pub event_refusal : Reason → Reason
+event_refusal Syntax = Dead
+event_refusal Long = Dead
+event_refusal Nohello = Dead
+event_refusal r = r
 
 -- the word is `0` or a refusal of an event  [profile]
 abbrev pub IsDoneWord : Option Word → Type 0

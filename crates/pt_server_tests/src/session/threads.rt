@@ -234,7 +234,10 @@ fn are_played_in<L: Ledger + Send + Sync, R: Threads + Wait + HostClock + Sync>(
     let are_added = remains.add(None, clock)
         && remains.add(first.left, first.clock)
         && remains.add(second.left, second.clock);
-    are_right && are_added && remains.close(shared.into_hub()).is_some()
+    let hub = shared.into_hub();
+    // No session seals the history.
+    let has_first = one.text.is_none() || hub.seen(0).is_some();
+    are_right && has_first && are_added && remains.close(hub).is_some()
 }
 
 // Plays both sessions at once, each in a thread, and closes their hub.
