@@ -1,6 +1,6 @@
 -- What an accepted event takes of the cells that were made.
 use Rattle.std.proofs.Common.{◌≡◌, ℕ, ◌+◌, ◌≤◌, Bool, true, false, List, [], ◌∷◌, ◌++◌, length, Option}
-use Rattle.std.proofs.Common.{◌-◌, IfSome, slice_get, Some, None, cond, refl, sym, ap, ◌∙◌, subst, length-append, arith}
+use Rattle.std.proofs.Common.{Result, Ok, Err, IfOk, ◌-◌, IfSome, slice_get, Some, None, cond, refl, sym, ap, ◌∙◌, subst, length-append, arith}
 use Rattle.std.specs.Option.{option_or}
 use Rattle.std.proofs.lemmas.List.{append_cancel_left}
 use Rattle.std.proofs.lemmas.List.Elements.{filter_map-append}
@@ -26,8 +26,9 @@ use Rattle.pt_legal.specs.declared.applied.Applied.{Applied}
 use Rattle.pt_legal.specs.Cores.{Kept, Seen, past}
 use Rattle.pt_legal.specs.Applying.{Writes, IsApplied, IsWritten, is_death}
 use Rattle.pt_legal.specs.Sealing.{sealed, IsSealed}
-use Rattle.pt_cells.specs.Cells.{CellView, SeenView, Celled, AreFirst, AreCells, IsCelled, cells_after}
-use Rattle.pt_cells.proofs.Firsts.{first-at, firsts-more}
+use Rattle.pt_cells.specs.Cells.{CellView, SeenView, SlotsView, Celled, AreFirst, AreCells}
+use Rattle.pt_cells.specs.Cells.{AreSlots, Extends, IsCelled, cells_after, cells_in, no_cells}
+use Rattle.pt_cells.proofs.Firsts.{first-at, firsts-more, no_are, no_more}
 use Rattle.pt_cells.proofs.Reserved.{need-onto, need-outer, need-sealed}
 
 -- the entries beyond those that are reserved
@@ -172,6 +173,41 @@ sealed-celled k new at cs ds made left b l ok is e same =
         same,
       );
     })
+
+-- the slots of a core, if it has any, are the cells of its entries
+pub slots-are : (k : Kept) (s : Option SlotsView) → AreSlots k s
+    → AreCells k.entries (cells_in k.entries s)
+slots-are k None are = no_are k.entries
+slots-are k (Some s) are = are.each
+
+-- a core without cells, and an event that was applied to it
+module _ (k new : Kept) (v : Event) (a : Applied) where
+  unseen : (s : Bool) → a.sealed ≡ (cond s (Some (place (past k))) None)
+      → IsWritten (cond s (sealed k) k) v new a
+      → Extends (cells_after a.sealed (no_cells k.entries)) (no_cells new.entries)
+  unseen false t w =
+      subst (λ (z : Option ℕ). Extends (cells_after z (no_cells k.entries)) (no_cells new.entries))
+      (sym t)
+      (record {
+        more = no_cells (entry_for (past k) v ∷ w.writes.extends.0);
+        is =
+            ap no_cells w.writes.extends.1
+            ∙ no_more k.entries (entry_for (past k) v ∷ w.writes.extends.0);
+      })
+  unseen true t w =
+      subst (λ (z : Option ℕ). Extends (cells_after z (no_cells k.entries)) (no_cells new.entries))
+      (sym t)
+      (record { more = no_cells new.entries; is = refl })
+
+  pub unseen-by : IsApplied k v new a
+      → Extends (cells_after a.sealed (no_cells k.entries)) (no_cells new.entries)
+  unseen-by ok = unseen (needs_seal k.limit (past k) v) ok.sealed ok.written
+
+pub unseen-ok : (r : Result Applied Refusal) (k new : Kept) (v : Event)
+    → IfOk r (λ a. IsApplied k v new a)
+    → IfOk r (λ a. Extends (cells_after a.sealed (no_cells k.entries)) (no_cells new.entries))
+unseen-ok (Ok a) k new v ok = unseen-by k new v a ok
+unseen-ok (Err e) k new v ok = tt
 
 -- an entry that was seen is that of the history
 pub seen-entry : (k : Seen) (cs : List (Option CellView)) (w : Celled)
