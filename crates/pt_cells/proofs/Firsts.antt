@@ -91,9 +91,3 @@ no_more (e ∷ es) fs = ap (λ cs. None ∷ cs) (no_more es fs)
 -- each entry has a cell, or there are none
 pub no_are : (es : List Entry) → AreCells es (no_cells es)
 no_are es = record { first = no_first es; all = no_length es }
-
-pub no_at : (es : List Entry) (i : ℕ) (c : CellView)
-    → slice_get (no_cells es) i ≡ Some (Some c) → ⊥
-no_at [] i c s = absurd cc
-no_at (e ∷ es) zero c s = absurd cc
-no_at (e ∷ es) (suc i) c s = no_at es i c s

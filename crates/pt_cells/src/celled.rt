@@ -246,9 +246,10 @@ impl<C: LegalHistory, A: Allocator + Copy> Celled<C, A> {
         if place < first {
             return None;
         }
-        self.slots
-            .as_ref()?
-            .seen((place - first) as usize, place)
+        match &self.slots {
+            Some(slots) => slots.seen((place - first) as usize, place),
+            None => None,
+        }
     }
 
     /// Proves that each entry has a cell of its own, unless the cell refused it.
@@ -265,10 +266,13 @@ impl<C: LegalHistory, A: Allocator + Copy> Celled<C, A> {
             s.cell.name ≡ seen.now.cell.name → s.cell.entry ≡ seen.now.cell.entry) }
     {
         let first = self.core.first();
-        if let Some(slots) = &self.slots {
-            if first <= seen.place {
-                slots.meet((seen.place - first) as usize, seen);
+        match &self.slots {
+            Some(slots) => {
+                if first <= seen.place {
+                    slots.meet((seen.place - first) as usize, seen);
+                }
             }
+            None => {}
         }
     }
 }
