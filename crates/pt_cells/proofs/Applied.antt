@@ -1,6 +1,6 @@
 -- What an accepted event takes of the cells that were made.
-use Rattle.std.proofs.Common.{◌≡◌, ℕ, ◌+◌, ◌≤◌, Bool, true, false, List, [], ◌∷◌, ◌++◌, length, Option}
-use Rattle.std.proofs.Common.{◌-◌, IfSome, slice_get, Some, None, cond, refl, sym, ap, ◌∙◌, subst, length-append, arith}
+use Rattle.std.proofs.Common.{◌≡◌, ℕ, zero, suc, nat_lt, ◌+◌, ◌≤◌, Bool, true, false, List, [], ◌∷◌, ◌++◌, length, Option}
+use Rattle.std.proofs.Common.{Result, Ok, Err, IfOk, ◌-◌, IfSome, slice_get, Some, None, cond, refl, sym, ap, ◌∙◌, subst, length-append, arith}
 use Rattle.std.specs.Option.{option_or}
 use Rattle.std.proofs.lemmas.List.{append_cancel_left}
 use Rattle.std.proofs.lemmas.List.Elements.{filter_map-append}
@@ -23,11 +23,13 @@ use Rattle.pt_model.proofs.Legality.{behind-follows, behind-part, behind-settled
 use Rattle.pt_model.proofs.Room.{room-death}
 use Rattle.pt_model.proofs.Steps.{step-event}
 use Rattle.pt_legal.specs.declared.applied.Applied.{Applied}
-use Rattle.pt_legal.specs.Cores.{Kept, Seen, past}
+use Rattle.pt_legal.specs.Cores.{Kept, Seen, past, shown}
 use Rattle.pt_legal.specs.Applying.{Writes, IsApplied, IsWritten, is_death}
 use Rattle.pt_legal.specs.Sealing.{sealed, IsSealed}
-use Rattle.pt_cells.specs.Cells.{CellView, SeenView, Celled, AreFirst, AreCells, IsCelled, cells_after}
-use Rattle.pt_cells.proofs.Firsts.{first-at, firsts-more}
+use Rattle.pt_cells.specs.Cells.{CellView, SeenView, SlotsView, Celled, AreFirst, AreCells}
+use Rattle.pt_cells.specs.Cells.{AreSlots, Extends, IsCelled, cells_after, cells_in, no_cells}
+use Rattle.pt_cells.specs.Cells.{seen_at, seen_if}
+use Rattle.pt_cells.proofs.Firsts.{first-at, firsts-more, no_are, no_more}
 use Rattle.pt_cells.proofs.Reserved.{need-onto, need-outer, need-sealed}
 
 -- the entries beyond those that are reserved
@@ -173,6 +175,53 @@ sealed-celled k new at cs ds made left b l ok is e same =
       );
     })
 
+-- the slots of a core, if it has any, are the cells of its entries
+pub slots-are : (k : Kept) (s : Option SlotsView) → AreSlots k s
+    → AreCells k.entries (cells_in k.entries s)
+slots-are k None are = no_are k.entries
+slots-are k (Some s) are = are.each
+
+-- a core without cells, and an event that was applied to it
+module _ (k new : Kept) (v : Event) (a : Applied) where
+  unseen : (s : Bool) → a.sealed ≡ (cond s (Some (place (past k))) None)
+      → IsWritten (cond s (sealed k) k) v new a
+      → Extends (cells_after a.sealed (no_cells k.entries)) (no_cells new.entries)
+  unseen false t w =
+      subst (λ (z : Option ℕ). Extends (cells_after z (no_cells k.entries)) (no_cells new.entries))
+      (sym t)
+      (record {
+        more = no_cells (entry_for (past k) v ∷ w.writes.extends.0);
+        is =
+            ap no_cells w.writes.extends.1
+            ∙ no_more k.entries (entry_for (past k) v ∷ w.writes.extends.0);
+      })
+  unseen true t w =
+      subst (λ (z : Option ℕ). Extends (cells_after z (no_cells k.entries)) (no_cells new.entries))
+      (sym t)
+      (record { more = no_cells new.entries; is = refl })
+
+  pub unseen-by : IsApplied k v new a
+      → Extends (cells_after a.sealed (no_cells k.entries)) (no_cells new.entries)
+  unseen-by ok = unseen (needs_seal k.limit (past k) v) ok.sealed ok.written
+
+pub unseen-ok : (r : Result Applied Refusal) (k new : Kept) (v : Event)
+    → IfOk r (λ a. IsApplied k v new a)
+    → IfOk r (λ a. Extends (cells_after a.sealed (no_cells k.entries)) (no_cells new.entries))
+unseen-ok (Ok a) k new v ok = unseen-by k new v a ok
+unseen-ok (Err e) k new v ok = tt
+
+-- the same of a core that has no slots
+pub unseen-in : (r : Result Applied Refusal) (k new : Seen) (v : Event) (o : Option SlotsView)
+    (w : Celled) → o ≡ None
+    → ◌≡◌ {A = Celled} (record { core = k; cells = cells_in k.entries o }) w
+    → IfOk r (λ a. IsApplied (shown k) v (shown new) a)
+    → IfOk r (λ a. Extends (cells_after a.sealed w.cells) (cells_in new.entries o))
+unseen-in r k new v None w e is ok =
+    subst (λ (z : Celled).
+    IfOk r (λ a. Extends (cells_after a.sealed z.cells) (no_cells new.entries))) is
+    (unseen-ok r (shown k) (shown new) v ok)
+unseen-in r k new v (Some s) w e is ok = absurd cc
+
 -- an entry that was seen is that of the history
 pub seen-entry : (k : Seen) (cs : List (Option CellView)) (w : Celled)
     → ◌≡◌ {A = Celled} (record { core = k; cells = cs }) w → AreCells k.entries cs
@@ -184,3 +233,33 @@ seen-entry k cs w is are (Some s) first place f so =
     subst (λ (v : Celled). slice_get v.core.entries (place - v.core.start.at) ≡ Some s.cell.entry) is
     (first-at k.entries cs (place - k.start.at) s.cell are.first
     (ap (λ (n : ℕ). slice_get cs (place - n)) (sym f) ∙ so.1))
+
+-- the same of a core that has these slots
+pub seen-in : (k : Seen) (o : Option SlotsView) (s : SlotsView) (w : Celled) → o ≡ Some s
+    → ◌≡◌ {A = Celled} (record { core = k; cells = cells_in k.entries o }) w
+    → AreSlots (shown k) o → (r : Option SeenView) (first place : ℕ) → first ≡ k.start.at
+    → IfSome r (λ t. (t.place ≡ place)
+    × (slice_get s.cells (place - first) ≡ Some (Some t.cell)))
+    → IfSome r (λ t. slice_get w.core.entries (place - w.core.start.at) ≡ Some t.cell.entry)
+seen-in k None s w e is are r first place f so = absurd cc
+seen-in k (Some x) s w e is are r first place f so =
+    let same : s ≡ x = cc in
+    seen-entry k x.cells w is are.each r first place f
+    (subst (λ (z : SlotsView). IfSome r (λ t. (t.place ≡ place)
+    × (slice_get z.cells (place - first) ≡ Some (Some t.cell)))) same so)
+
+-- nothing is seen of a core that has no slots
+unseen-there : (b : Bool) (es : List Entry) (i j : ℕ) (P : SeenView → Type 0)
+    → IfSome (cond b None (seen_if j (slice_get (no_cells es) i))) P
+unseen-there true es i j P = tt
+unseen-there false [] i j P = tt
+unseen-there false (e ∷ es) zero j P = tt
+unseen-there false (e ∷ es) (suc i) j P = unseen-there false es i j P
+
+pub none-seen : (k : Seen) (o : Option SlotsView) (w : Celled) (j : ℕ) (P : SeenView → Type 0)
+    → o ≡ None → ◌≡◌ {A = Celled} (record { core = k; cells = cells_in k.entries o }) w
+    → IfSome (seen_at w j) P
+none-seen k None w j P e is =
+    subst (λ (z : Celled). IfSome (seen_at z j) P) is
+    (unseen-there (nat_lt j (shown k).start.at) k.entries (j - (shown k).start.at) j P)
+none-seen k (Some s) w j P e is = absurd cc

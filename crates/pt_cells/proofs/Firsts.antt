@@ -2,7 +2,7 @@
 use Rattle.std.proofs.Common.{◌≡◌, ℕ, zero, suc, ◌+◌, ◌-◌, ◌<◌, ◌≤◌, IsSome, arith, length-append, List, [], ◌∷◌, ◌++◌, length, slice_get, Option, Some, None}
 use Rattle.std.proofs.Common.{refl, sym, ap, ◌∙◌, subst, append_assoc}
 use Rattle.pt_model.specs.declared.entry.Entry.{Entry}
-use Rattle.pt_cells.specs.Cells.{CellView, HasEntry, AreFirst, Extends, Pushes}
+use Rattle.pt_cells.specs.Cells.{CellView, HasEntry, AreCells, AreFirst, Extends, Pushes, no_cells}
 
 pub first-push : (es : List Entry) (cs : List (Option CellView)) (c : Option CellView) (e : Entry)
     → AreFirst es cs → slice_get es (length cs) ≡ Some e → HasEntry e c → AreFirst es (cs ++ c ∷ [])
@@ -74,3 +74,20 @@ module _ (es : List Entry) (old mid new : List (Option CellView)) (e : Entry) (i
     omega (arith, more, is),
     omega (arith, more, all, room),
   )
+
+-- entries without cells
+pub no_first : (es : List Entry) → AreFirst es (no_cells es)
+no_first [] = tt
+no_first (e ∷ es) = (tt, no_first es)
+
+pub no_length : (es : List Entry) → length (no_cells es) ≡ length es
+no_length [] = refl
+no_length (e ∷ es) = ap suc (no_length es)
+
+pub no_more : (es fs : List Entry) → no_cells (es ++ fs) ≡ no_cells es ++ no_cells fs
+no_more [] fs = refl
+no_more (e ∷ es) fs = ap (λ cs. None ∷ cs) (no_more es fs)
+
+-- each entry has a cell, or there are none
+pub no_are : (es : List Entry) → AreCells es (no_cells es)
+no_are es = record { first = no_first es; all = no_length es }

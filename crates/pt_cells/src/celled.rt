@@ -9,7 +9,8 @@ ghost use Rattle.pt_model.specs.Room.{need as need_in};
 ghost use Rattle.pt_legal.specs.Cores.{IsEmpty, past, shown};
 ghost use Rattle.pt_legal.specs.Applying.{IsApplied, IsRefusal, is_death as is_death_of};
 ghost use Rattle.pt_legal.specs.Sealing.{IsSealed, seal_refusal};
-ghost use Rattle.pt_cells.specs.Cells.{AreFirst, AreCells, Extends, cells_after, seen_at};
+ghost use Rattle.pt_cells.specs.Cells.{AreFirst, AreCells, Extends, IsCelled, cells_after};
+ghost use Rattle.pt_cells.specs.Cells.{seen_at};
 
 use crate::seen::Seen;
 use crate::slots::Slots;
@@ -71,23 +72,86 @@ fn make_room<C: LegalHistory, A: Allocator + Copy>(
     Ok(())
 }
 
+// Applies one event to a core whose entries have cells. Each new entry gets one.
+fn apply_celled<C: LegalHistory, A: Allocator + Copy>(
+    core: &mut C,
+    slots: &mut Slots<A>,
+    event: &Event,
+) -> Result<Applied, Refusal>
+    requires { IsCelled (shown (C.seen core.old)) slots.old.cells slots.old.room }
+    ensures celled { IsCelled (shown (C.seen core.new)) slots.new.cells slots.new.room }
+    ensures ok { IfOk result (λ applied. IsApplied (shown (C.seen core.old)) event.now
+        (shown (C.seen core.new)) applied) }
+    ensures cells { IfOk result (λ applied.
+        Extends (cells_after applied.sealed slots.old.cells) slots.new.cells) }
+    ensures err { IfErr result (λ refusal.
+        IsRefusal (shown (C.seen core.old)) event.now refusal) }
+    ensures unchanged { OnErr result ((C.seen core.new ≡ C.seen core.old)
+        × (slots.new.cells ≡ slots.old.cells)) }
+    ensures death { (c : ℕ) → event.now ≡ event_is.Death c
+        → is_alive (past (shown (C.seen core.old))) c ≡ true → IsOk result }
+    ensures unsealed { (c : ℕ) → event.now ≡ event_is.Death c
+        → IfOk result (λ applied. applied.sealed ≡ None) }
+{
+    let _ = core.len();
+    if let Err(refusal) = make_room(core, slots, event) {
+        return Err(refusal);
+    }
+    match core.apply(event) {
+        Ok(applied) => {
+            slots.clear_if(applied.sealed);
+            fill(core, slots);
+            Ok(applied)
+        }
+        Err(refusal) => Err(refusal),
+    }
+}
+
+// Seals a core whose entries have cells, and lets go of these.
+fn seal_celled<C: LegalHistory, A: Allocator + Copy>(
+    core: &mut C,
+    slots: &mut Slots<A>,
+) -> Result<u64, Refusal>
+    requires { IsCelled (shown (C.seen core.old)) slots.old.cells slots.old.room }
+    ensures celled { IsCelled (shown (C.seen core.new)) slots.new.cells slots.new.room }
+    ensures ok { IfOk result (λ at.
+        IsSealed (shown (C.seen core.old)) (shown (C.seen core.new)) at) }
+    ensures cells { OnOk result (slots.new.cells ≡ []) }
+    ensures err { IfErr result (λ refusal. refusal ≡ seal_refusal (shown (C.seen core.old))) }
+    ensures unchanged { OnErr result ((C.seen core.new ≡ C.seen core.old)
+        × (slots.new.cells ≡ slots.old.cells)) }
+{
+    let _ = core.len();
+    match core.seal() {
+        Ok(at) => {
+            slots.clear();
+            Ok(at)
+        }
+        Err(refusal) => Err(refusal),
+    }
+}
+
 /// A history whose entries are in cells that are set once. Whoever saw an entry shares its cell.
 ///
 /// Contracts see the history and the cells of its entries.
 pub struct Celled<C: LegalHistory, A: Allocator + Copy = Global> {
     core: C,
-    slots: Slots<A>,
+    /// The cells, if any are made.
+    slots: Option<Slots<A>>,
 }
 
 impl<C: LegalHistory, A: Allocator + Copy> Model for Celled<C, A> {
     ghost use Rattle.pt_legal.specs.Cores.{IsEmpty, shown};
-    ghost use Rattle.pt_cells.specs.Cells.{Celled as View, IsCelled};
+    ghost use Rattle.pt_cells.specs.Cells.{AreSlots, Celled as View, cells_in};
 
     ghost Value = { View };
 
-    ghost view = { λ w. record { core = C.seen w.core; cells = w.slots.cells } };
+    ghost view = { λ w. record {
+      core = C.seen w.core;
+      cells = cells_in (C.seen w.core).entries w.slots;
+    } };
 
-    ghost invariant = { λ w. IsCelled (shown (C.seen w.core)) w.slots.cells w.slots.room };
+    ghost invariant = { λ w. AreSlots (shown (C.seen w.core)) w.slots };
 }
 
 // Not derived, so that code that drops this proves nothing of its parts.
@@ -118,7 +182,10 @@ impl<C: LegalHistory, A: Allocator + Copy> Celled<C, A> {
     {
         Celled {
             core,
-            slots: Slots::new(alloc, heap),
+            slots: match heap {
+                Some(heap) => Some(Slots::new(alloc, heap)),
+                None => None,
+            },
         }
     }
 
@@ -140,16 +207,9 @@ impl<C: LegalHistory, A: Allocator + Copy> Celled<C, A> {
             → IfOk result (λ applied. applied.sealed ≡ None) }
     {
         let _ = self.core.len();
-        if let Err(refusal) = make_room(&self.core, &mut self.slots, event) {
-            return Err(refusal);
-        }
-        match self.core.apply(event) {
-            Ok(applied) => {
-                self.slots.clear_if(applied.sealed);
-                fill(&self.core, &mut self.slots);
-                Ok(applied)
-            }
-            Err(refusal) => Err(refusal),
+        match &mut self.slots {
+            Some(slots) => apply_celled(&mut self.core, slots, event),
+            None => self.core.apply(event),
         }
     }
 
@@ -162,12 +222,9 @@ impl<C: LegalHistory, A: Allocator + Copy> Celled<C, A> {
         ensures unchanged { OnErr result (self.new ≡ self.old) }
     {
         let _ = self.core.len();
-        match self.core.seal() {
-            Ok(at) => {
-                self.slots.clear();
-                Ok(at)
-            }
-            Err(refusal) => Err(refusal),
+        match &mut self.slots {
+            Some(slots) => seal_celled(&mut self.core, slots),
+            None => self.core.seal(),
         }
     }
 
@@ -189,14 +246,17 @@ impl<C: LegalHistory, A: Allocator + Copy> Celled<C, A> {
         if place < first {
             return None;
         }
-        self.slots.seen((place - first) as usize, place)
+        match &self.slots {
+            Some(slots) => slots.seen((place - first) as usize, place),
+            None => None,
+        }
     }
 
     /// Proves that each entry has a cell of its own, unless the cell refused it.
     pub fn law_cells(&self)
         ensures { AreCells self.now.core.entries self.now.cells }
     {
-        let _ = self.slots.len();
+        let _ = self.core.len();
     }
 
     /// Proves that an entry that was seen is that of the history, if its cell is the one that the
@@ -206,8 +266,13 @@ impl<C: LegalHistory, A: Allocator + Copy> Celled<C, A> {
             s.cell.name ≡ seen.now.cell.name → s.cell.entry ≡ seen.now.cell.entry) }
     {
         let first = self.core.first();
-        if first <= seen.place {
-            self.slots.meet((seen.place - first) as usize, seen);
+        match &self.slots {
+            Some(slots) => {
+                if first <= seen.place {
+                    slots.meet((seen.place - first) as usize, seen);
+                }
+            }
+            None => {}
         }
     }
 }

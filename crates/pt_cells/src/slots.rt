@@ -39,12 +39,11 @@ impl Spare {
     }
 }
 
-/// The cells of entries, in order. An entry has none if its cell refused it, and if no cells are
-/// made.
+/// The cells of entries, in order. An entry has none if its cell refused it.
 pub struct Slots<A: Allocator + Copy = Global> {
-    heap: Option<Global>,
+    heap: Global,
     cells: Vec<Option<Cell>, A>,
-    spares: Vec<Option<Spare>, A>,
+    spares: Vec<Spare, A>,
 }
 
 impl<A: Allocator + Copy> Model for Slots<A> {
@@ -74,9 +73,8 @@ impl<A: Allocator + Copy> Slots<A> {
     ghost use Rattle.std.specs.Prelude.{OnOk};
     ghost use Rattle.pt_cells.specs.Cells.{Pushes, cells_after};
 
-    /// Creates slots without cells, which allocates nothing. The cells are made in `heap`. Without
-    /// one, no cells are made.
-    pub fn new(alloc: A, heap: Option<Global>) -> Slots<A>
+    /// Creates slots without cells, which allocates nothing. The cells are made in `heap`.
+    pub fn new(alloc: A, heap: Global) -> Slots<A>
         ensures { (result.cells ≡ []) × (result.room ≡ 0) }
     {
         Slots {
@@ -93,14 +91,6 @@ impl<A: Allocator + Copy> Slots<A> {
         self.cells.len() as u64
     }
 
-    // Makes a cell and its box, if cells are made.
-    fn spare(&self) -> Result<Option<Spare>, AllocError> {
-        match self.heap {
-            Some(heap) => Ok(Some(Spare::new(heap)?)),
-            None => Ok(None),
-        }
-    }
-
     // Makes room for one more entry.
     fn make_one(&mut self) -> Result<(), AllocError>
         ensures cells { self.new.cells ≡ self.old.cells }
@@ -110,7 +100,7 @@ impl<A: Allocator + Copy> Slots<A> {
         self.spares.reserve(1)?;
         let more = self.spares.len() + 1;
         self.cells.reserve(more)?;
-        let spare = self.spare()?;
+        let spare = Spare::new(self.heap)?;
         self.spares.push_reserved(spare);
         Ok(())
     }
@@ -134,11 +124,8 @@ impl<A: Allocator + Copy> Slots<A> {
         ensures cells { Pushes self.old.cells self.new.cells entry }
         ensures room { self.new.room + 1 ≡ self.old.room }
     {
-        let cell = match self.spares.pop().unwrap() {
-            Some(spare) => spare.set(entry),
-            None => None,
-        };
-        self.cells.push_reserved(cell);
+        let spare = self.spares.pop().unwrap();
+        self.cells.push_reserved(spare.set(entry));
     }
 
     /// Lets go of all cells. Those who share one keep it. The room stays.

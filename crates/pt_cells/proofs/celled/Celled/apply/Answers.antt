@@ -1,46 +1,8 @@
-use Rattle.std.proofs.Common.{length, sym, ap, subst, arith}
-use Rattle.pt_legal.specs.Cores.{shown}
-use Rattle.pt_cells.specs.Cells.{AreCells, AreFirst}
-use Rattle.pt_cells.proofs.Applied.{fits}
+use Rattle.pt_cells.proofs.Applied.{unseen-in}
 use Rattle.pt_cells.proofs.celled.Celled.apply.Goals as goal
 
-pub fill-requires-clause-first : goal.fill-requires-clause-first
-fill-requires-clause-first g c =
-    let old = shown (g.C.LegalHistory.seen c.self.inside.core) in
-    let new = shown (g.C.LegalHistory.seen c.apply.new.self) in
-    let cs = c.make_room.new.slots.cells in
-    let are = subst (AreCells old.entries) (sym c.make_room.ensures.cells) c.self.invariant.each in
-    let fit = fits old new c.args.event.now c.in-Ok.applied c.len.ensures.starts c.len.ensures.legal
-    c.in-Ok.ensures.ok cs are in
-    subst (AreFirst new.entries) (sym c.clear_if.ensures.0) fit.first
-
-pub fill-requires-clause-room : goal.fill-requires-clause-room
-fill-requires-clause-room g c =
-    let old = shown (g.C.LegalHistory.seen c.self.inside.core) in
-    let new = shown (g.C.LegalHistory.seen c.apply.new.self) in
-    let cs = c.make_room.new.slots.cells in
-    let are = subst (AreCells old.entries) (sym c.make_room.ensures.cells) c.self.invariant.each in
-    let fit = fits old new c.args.event.now c.in-Ok.applied c.len.ensures.starts c.len.ensures.legal
-    c.in-Ok.ensures.ok cs are in
-    omega (arith, fit.room, ap length c.clear_if.ensures.0, c.clear_if.ensures.1, c.in_default.ensures.ok)
-
-pub invariant_of-self-in-Ok : goal.invariant_of-self-in-Ok
-invariant_of-self-in-Ok g c =
-    let old = shown (g.C.LegalHistory.seen c.self.inside.core) in
-    let new = shown (g.C.LegalHistory.seen c.apply.new.self) in
-    let cs = c.make_room.new.slots.cells in
-    let are = subst (AreCells old.entries) (sym c.make_room.ensures.cells) c.self.invariant.each in
-    let fit = fits old new c.args.event.now c.in-Ok.applied c.len.ensures.starts c.len.ensures.legal
-    c.in-Ok.ensures.ok cs are in
-    record {
-      each = c.fill.ensures.cells;
-      enough = omega (
-        arith,
-        fit.room,
-        ap length c.clear_if.ensures.0,
-        c.clear_if.ensures.1,
-        c.in_default.ensures.ok,
-        c.fill.ensures.room,
-        c.fill.ensures.cells.all,
-      );
-    }
+pub returns-in-None-clause-cells : goal.returns-in-None-clause-cells
+returns-in-None-clause-cells g c =
+    unseen-in c.apply.result (g.C.LegalHistory.seen c.self.inside.core)
+    (g.C.LegalHistory.seen c.apply.new.self) c.args.event.now c.self.inside.slots
+    c.args.self.now c.in-None.is c.self.view_is c.apply.ensures.ok
