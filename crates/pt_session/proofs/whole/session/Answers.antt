@@ -1,4 +1,5 @@
 use Rattle.pt_session.proofs.whole.session.Goals as goal
 
 pub returns-clause-closed : goal.returns-clause-closed
-returns-clause-closed g c = (c.in_ok-opened.field-0.id.0, c.in_ok-opened.ensures.ok, c.close_session.ensures)
+returns-clause-closed g c =
+    (c.in_ok-opened.field-0.id.0, c.in_ok-opened.ensures.ok, c.close_session.ensures)
