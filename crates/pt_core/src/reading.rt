@@ -1,7 +1,6 @@
 //! What is read of the tables besides entries and answers.
 
 ghost use Rattle.std.specs.Prelude.{◌≡◌, is_some};
-ghost use Rattle.pt_types.specs.declared.operations.ObjectClass.TheVariants as class;
 ghost use Rattle.pt_model.specs.Clients.{clock as clock_in};
 ghost use Rattle.pt_model.specs.Objects.{find as find_in, object_named, objects as objects_in};
 ghost use Rattle.pt_rwlock.specs.RwlockState.{seen_by};
