@@ -7,7 +7,8 @@ priority. Every answer is proved to be what the rules say.";
 
 const SCRIPT: &str = "Answers the lines of standard input on standard output, each as it comes";
 
-const EXPLAIN: &str = "Shows what each line of a script added to the history, with its answers";
+const EXPLAIN: &str =
+    "Shows what each line of a script added to the history and why, with its answers";
 
 const CHECK: &str = "Says whether the answers in traces are those that the rules give";
 
@@ -81,13 +82,17 @@ docs/RULES.md has the rules, and examples/ has scripts to try:
 
 const ENTRIES: &str = "\
 It reads what `ptserver script` reads. For each line it writes the line, the entries that the line
-added to the history, each behind its place, and the answers that `script` writes, each behind `>`:
+added to the history, or `refused`, and the answers that `script` writes, each after `>`. An entry
+comes after its place, with the reason for it and the page that has the rule. Here A unlocks m, and
+the call at place 5 gets it:
 
   A unlock m
-     6  Call(0, unlock m, 0)     A, who joined at place 0, unlocks m, and is answered 0
-     7  Grant(5, 0)              the call at place 5 is answered 0: it has the mutex now
+      6  Call(0, unlock m, 0)         gives the mutex back                        [XSH mutex_unlock]
+      7  Grant(5, 0)                  has the mutex                               [XSH mutex_unlock]
   > A 4 0
   > B 2 0
+
+[profile] marks a rule that is a choice of this server. docs/RULES.md has all rules.
 
 The entries are these. C is the number of a client, which is the place of its Join; the number of an
 OBJECT is the place of the call that made it:
@@ -103,7 +108,7 @@ OBJECT is the place of the call that made it:
 
 The output is a trace, which programs can read too: a line that is empty, or begins with a space, is
 a remark. A line of the script that is empty, or begins with a space, `#`, `<` or `>`, is written
-behind `< `, and one of more than 128 bytes as `<`.
+after `< `, and one of more than 128 bytes as `<`.
 
 Status: 0 done, whatever was answered; 2 a wrong command line; 3 reading or writing failed;
 5 out of memory.
