@@ -1,13 +1,13 @@
 -- What is true of a table with no row, and of one whose rows and numbers are unchanged.
 use Rattle.std.proofs.Common.{◌≡◌, ℕ, ◌+◌, ◌-◌, ◌<◌, ◌≤◌, false, List, [], Option, Some, None}
-use Rattle.std.proofs.Common.{is_some, sym, subst, inl, inr, ◌∙◌}
+use Rattle.std.proofs.Common.{is_some, sym, subst}
 use Rattle.std.proofs.Common.{Bool, true, cond, ◌||◌, refl, arith}
 use Rattle.std.specs.Prelude.{Result, Ok, Err, OnOk}
 use Rattle.std.specs.Option.{option_map}
 use Rattle.std.specs.Result.{is_err}
 use Rattle.std.proofs.lemmas.Bool.{false≢true}
 use Rattle.pt_table.specs.declared.objects.ObjectRow.{ObjectRow}
-use Rattle.pt_table.specs.NameSlots.{AreKept, Cells, IsFiled, IsNamed}
+use Rattle.pt_table.specs.NameSlots.{IsNamed}
 use Rattle.pt_table.specs.Slots.{IsNumbered}
 
 pub granted : {T E P : Type 0} (r : Result T E) → false ≡ is_err r → OnOk r P → P
@@ -55,25 +55,11 @@ module _ {R : Type 0} (number : R → ℕ) (slots slots' : List (Option R))
         within = omega arith;
       }))
 
-module _ {T : Type 0} (slots slots' : List (Option (ObjectRow T))) (cells cells' : Cells)
-    (others others' : List (List ℕ × ℕ)) where
-  pub named-same : slots' ≡ slots → cells' ≡ cells → AreKept others others'
-      → IsNamed slots cells others → IsNamed slots' cells' others'
-  named-same s c o is =
-      subst (λ x. IsNamed x cells' others') (sym s)
-      (subst (λ x. IsNamed slots x others') (sym c) (record {
-        once = is.once;
-        filed = λ slot name e. still name slot (is.filed slot name e);
-      }))
-    where
-      still : (name : List ℕ) (slot : ℕ) → IsFiled cells others name slot
-          → IsFiled cells others' name slot
-      still name slot (inl f) = inl f
-      still name slot (inr f) = inr (f.0, o name ∙ f.1)
+module _ {T : Type 0} (slots slots' : List (Option (ObjectRow T)))
+    (names names' : List (List ℕ × ℕ)) where
+  pub named-same : slots' ≡ slots → names' ≡ names → IsNamed slots names → IsNamed slots' names'
+  named-same s n is =
+      subst (λ x. IsNamed x names') (sym s) (subst (λ x. IsNamed slots x) (sym n) is)
 
-  pub named-none : slots ≡ [] → IsNamed slots cells others
-  named-none s =
-      subst (λ x. IsNamed x cells others) (sym s) (record {
-        once = λ name slot other e f. absurd (cc e);
-        filed = λ slot name e. absurd (cc e);
-      })
+  pub named-none : slots ≡ [] → IsNamed slots names
+  named-none s = subst (λ x. IsNamed x names) (sym s) (record { filed = λ slot name e. absurd (cc e) })

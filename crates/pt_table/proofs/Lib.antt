@@ -8,16 +8,12 @@ mod Added
 mod Written
 -- Removed: taking a row out: its slot is empty, and its number is no longer listed
 mod Removed
--- Named: the names of the listed rows: a look-up by name goes through the cells of the names
+-- Named: the names of the listed rows: a look-up by name goes through the map of names
 mod Named
 -- Vacated: a row that is taken out of the slot of its number: what is known of the answer
 mod Vacated
 -- Refused: a row that was handed back: for which fault, and how many rows there are
 mod Refused
--- Places: the index of a name's cell is within the cells
-mod Places
--- Filed: cells that are written: the names that are still filed
-mod Filed
 -- Links: what writing a link changes in the rows, and in what each leads to
 mod Links
 -- Chained: what the numbers of a chain lead to, as one is put in or taken out

@@ -1,7 +1,7 @@
--- The names of the listed rows: a look-up by name goes through the cells of the names.
+-- The names of the listed rows: a look-up by name goes through the map of names.
 use Rattle.std.proofs.Common.{◌≡◌, ◌≢◌, ◌∙◌, ℕ, Bool, true, false, cond, nat_eq, List, [], ◌∷◌}
 use Rattle.std.proofs.Common.{refl, ap, sym, Option, None, Some, true≢false, inl, inr, ◌||◌}
-use Rattle.std.proofs.Common.{is_some, subst}
+use Rattle.std.proofs.Common.{is_some}
 use Rattle.std.proofs.Math.ListN.{set}
 use Rattle.std.specs.List.{cons_option}
 use Rattle.std.specs.Option.{option_map}
@@ -12,9 +12,7 @@ use Rattle.pt_types.specs.Names.{same_name}
 use Rattle.pt_table.specs.declared.objects.ObjectRow.{ObjectRow}
 use Rattle.pt_table.specs.ObjectRows.{object_at, object_named, has_object, is_taken}
 use Rattle.pt_table.specs.Slots.{row_in_slot, rows_listed, Listed, IsNumbered}
-use Rattle.pt_table.specs.NameSlots.{name_in, Cells, IsFiled, IsFirst, IsNamed, IsOther}
-use Rattle.pt_table.specs.NameSlots.{AreKept, IsRowIn, IsRowInMap, IsRowNamed}
-use Rattle.pt_table.proofs.Kept.{named-same}
+use Rattle.pt_table.specs.NameSlots.{name_in, IsNamed, IsRowIn, IsRowNamed, IsSet}
 use Rattle.pt_table.proofs.Lookups.{some_inj, none_some, none_of}
 use Rattle.pt_table.proofs.Listed.{first_row}
 use Rattle.pt_table.proofs.Written.{same_in}
@@ -93,8 +91,8 @@ module _ {T : Type 0} (slots : List (Option (ObjectRow T))) where
 
 -- for a table and its rows
 module _ {T : Type 0} {slots : List (Option (ObjectRow T))} {numbers : List (ℕ × ℕ)}
-    {cells : Cells} {others : List (List ℕ × ℕ)} {most : ℕ}
-    (h : IsNumbered (λ row. row.number) slots numbers most) (k : IsNamed slots cells others)
+    {names : List (List ℕ × ℕ)} {most : ℕ}
+    (h : IsNumbered (λ row. row.number) slots numbers most) (k : IsNamed slots names)
     (rows : List (ObjectRow T)) (view : rows_listed slots numbers ≡ rows) where
   -- the row with a name is the one that the table has for it
   pub row_found : (t : List ℕ) (row : ObjectRow T) (s : ℕ) → row_in_slot slots s ≡ Some row
@@ -102,7 +100,8 @@ module _ {T : Type 0} {slots : List (Option (ObjectRow T))} {numbers : List (ℕ
   row_found t row s here name =
       let at = h.numbered s row.number (ap (option_map (λ r. r.number)) here) in
       let mine : name_in slots s ≡ Some t = ap (option_map (λ r. r.name)) here ∙ ap Some name in
-      let only : (j : ℕ) → name_in slots j ≡ Some t → j ≡ s = λ j there. k.once t j s there mine in
+      let only : (j : ℕ) → name_in slots j ≡ Some t → j ≡ s = λ j there.
+      some_inj (sym (k.filed j t there) ∙ k.filed s t mine) in
       sym (name_found slots numbers t s row.number row h.listed here name only at)
       ∙ ap (λ rs. object_named rs t) view
 
@@ -118,27 +117,18 @@ module _ {T : Type 0} {slots : List (Option (ObjectRow T))} {numbers : List (ℕ
       let r = row_of_name (row_in_slot slots s) t there in
       none_some (sym free ∙ sym (row_found t r.0 s r.1 r.2))
 
--- the row of a name, from the slots in which the name is looked up
-pub row_after : {T : Type 0} {slots : List (Option (ObjectRow T))} {cells : Cells}
-    {others : List (List ℕ × ℕ)} → IsNamed slots cells others → (t : List ℕ) (first : Option ℕ)
-    → ((s : ℕ) → IsFirst cells t s → first ≡ Some s)
-    → ((s : ℕ) → first ≡ Some s → name_in slots s ≢ Some t)
-    → (o : Option (ObjectRow T)) → IsRowInMap slots cells others t o → IsRowNamed slots t o
-row_after k t first at_first not_first None none =
-    λ s there.
-    elim (k.filed s t there) [
-      | inl f ↦ not_first s (at_first s f) there
-      | inr f ↦ none s f there
-    ]
-row_after k t first at_first not_first (Some row) found = found
+-- the row of a name, from the slot to which the map leads
+pub row_by_map : {T : Type 0} {slots : List (Option (ObjectRow T))} {names : List (List ℕ × ℕ)}
+    → IsNamed slots names → (t : List ℕ) (s : ℕ) → lookup (same_name t) names ≡ Some s
+    → (o : Option (ObjectRow T)) → IsRowIn slots s t o → IsRowNamed slots t o
+row_by_map {T} {slots} k t s at None none =
+    λ j there. none (ap (name_in slots) (some_inj (sym at ∙ k.filed j t there)) ∙ there)
+row_by_map k t s at (Some row) found = found
 
-pub row_by_map : {T : Type 0} (slots : List (Option (ObjectRow T))) (cells : Cells)
-    (others : List (List ℕ × ℕ)) (t : List ℕ) (other : Option ℕ)
-    → ((s : ℕ) → IsOther cells others t s → other ≡ Some s)
-    → (o : Option (ObjectRow T)) → IsRowIn slots other t o
-    → IsRowInMap slots cells others t o
-row_by_map slots cells others t other at_other None none = λ s f. none s (at_other s f)
-row_by_map slots cells others t other at_other (Some row) found = found
+pub row_unmapped : {T : Type 0} {slots : List (Option (ObjectRow T))}
+    {names : List (List ℕ × ℕ)} → IsNamed slots names → (t : List ℕ)
+    → lookup (same_name t) names ≡ None → (s : ℕ) → name_in slots s ≢ Some t
+row_unmapped k t none s there = none_some (sym none ∙ k.filed s t there)
 
 differ : (t u : List ℕ) → t ≢ u → same_name t u ≡ false
 differ t u apart = by (same_name t u) refl
@@ -148,15 +138,13 @@ differ t u apart = by (same_name t u) refl
     by false e = e
 
 -- the names after a new row
-module _ {T : Type 0} {slots : List (Option (ObjectRow T))} {cells : Cells}
-    {others : List (List ℕ × ℕ)} (new : List (Option (ObjectRow T))) (row : ObjectRow T) (key : ℕ)
-    (cells' : Cells) (others' : List (List ℕ × ℕ)) (k : IsNamed slots cells others)
+module _ {T : Type 0} {slots : List (Option (ObjectRow T))} {names : List (List ℕ × ℕ)}
+    (new : List (Option (ObjectRow T))) (row : ObjectRow T) (key : ℕ)
+    (names' : List (List ℕ × ℕ)) (k : IsNamed slots names)
     (here : row_in_slot new key ≡ Some row)
     (same : (s : ℕ) → s ≢ key → row_in_slot new s ≡ row_in_slot slots s)
     (free : (s : ℕ) → name_in slots s ≢ Some row.name)
-    (filed : IsFiled cells' others' row.name key)
-    (still : (t : List ℕ) (s : ℕ) → same_name row.name t ≡ false → IsFiled cells others t s
-    → IsFiled cells' others' t s) where
+    (now : IsSet names row.name (Some key) names') where
   was : (s : ℕ) (t : List ℕ) → s ≢ key → name_in new s ≡ Some t → name_in slots s ≡ Some t
   was s t apart e = sym (ap (option_map (λ r. r.name)) (same s apart)) ∙ e
 
@@ -164,125 +152,87 @@ module _ {T : Type 0} {slots : List (Option (ObjectRow T))} {cells : Cells}
   its s t is e =
       some_inj (sym (ap (option_map (λ r. r.name)) (ap (row_in_slot new) is ∙ here)) ∙ e)
 
-  never : (s : ℕ) (t : List ℕ) → row.name ≡ t → name_in slots s ≡ Some t → ⊥
-  never s t is e = free s (e ∙ ap Some (sym is))
-
-  once_again : (t : List ℕ) (s j : ℕ) → name_in new s ≡ Some t → name_in new j ≡ Some t → s ≡ j
-  once_again t s j at_s at_j =
-      elim (eqb_tells s key) [
-        | inl s_is ↦
-            elim (eqb_tells j key) [
-              | inl j_is ↦ s_is.1 ∙ sym j_is.1
-              | inr j_not ↦ absurd (never j t (its s t s_is.1 at_s) (was j t j_not.1 at_j))
-            ]
-        | inr s_not ↦
-            elim (eqb_tells j key) [
-              | inl j_is ↦ absurd (never s t (its j t j_is.1 at_j) (was s t s_not.1 at_s))
-              | inr j_not ↦ k.once t s j (was s t s_not.1 at_s) (was j t j_not.1 at_j)
-            ]
-      ]
-
-  filed_again : (s : ℕ) (t : List ℕ) → name_in new s ≡ Some t → IsFiled cells' others' t s
+  filed_again : (s : ℕ) (t : List ℕ) → name_in new s ≡ Some t
+      → lookup (same_name t) names' ≡ Some s
   filed_again s t e =
       elim (eqb_tells s key) [
         | inl is ↦
-            subst (λ n. IsFiled cells' others' n s) (its s t is.1 e)
-            (subst (λ j. IsFiled cells' others' row.name j) (sym is.1) filed)
+            now t ∙ ap (λ b. cond b (Some key) (lookup (same_name t) names)) (same-true row.name t (its s t is.1 e)) ∙ ap Some (sym is.1)
         | inr apart ↦
             let had = was s t apart.1 e in
-            still t s (differ row.name t (λ is. never s t is had)) (k.filed s t had)
+            let other : row.name ≢ t = λ is. free s (had ∙ ap Some (sym is)) in
+            now t ∙ ap (λ b. cond b (Some key) (lookup (same_name t) names)) (differ row.name t other) ∙ k.filed s t had
       ]
 
-  pub IsNamed-added : IsNamed new cells' others'
-  IsNamed-added = record { once = once_again; filed = filed_again }
+  pub IsNamed-added : IsNamed new names'
+  IsNamed-added = record { filed = filed_again }
 
 -- the names after a row is changed that keeps its number and its name
 pub IsNamed-written : {T : Type 0} {slots : List (Option (ObjectRow T))} {numbers : List (ℕ × ℕ)}
-    {cells : Cells} {others : List (List ℕ × ℕ)} {most : ℕ} (row : ObjectRow T) (slot : ℕ)
+    {names : List (List ℕ × ℕ)} {most : ℕ} (row : ObjectRow T) (slot : ℕ)
     (change : ObjectRow T → ObjectRow T)
     → ((r : ObjectRow T) → (change r).number ≡ r.number) → (change row).name ≡ row.name
-    → IsNumbered (λ r. r.number) slots numbers most → IsNamed slots cells others
+    → IsNumbered (λ r. r.number) slots numbers most → IsNamed slots names
     → row_in_slot slots slot ≡ Some row
-    → IsNamed (set slots slot (Some (change row))) cells others
-IsNamed-written {T} {slots} row slot change keeps name h k here =
-    let same : (s : ℕ) → name_in (set slots slot (Some (change row))) s ≡ name_in slots s =
-    same_in row slot change keeps h here (λ r. r.name) name in
+    → IsNamed (set slots slot (Some (change row))) names
+IsNamed-written row slot change keeps name h k here =
     record {
-      once = λ t s j at_s at_j. k.once t s j (sym (same s) ∙ at_s) (sym (same j) ∙ at_j);
-      filed = λ s t e. k.filed s t (sym (same s) ∙ e);
+      filed = λ s t e.
+          k.filed s t (sym (same_in row slot change keeps h here (λ r. r.name) name s) ∙ e);
     }
 
 -- the names after a row is taken out, and its name with it
 module _ {T : Type 0} {slots : List (Option (ObjectRow T))} {numbers : List (ℕ × ℕ)}
-    {cells : Cells} {others : List (List ℕ × ℕ)} {most : ℕ}
-    (cells' : Cells) (others' : List (List ℕ × ℕ))
+    {names : List (List ℕ × ℕ)} {most : ℕ} (names' : List (List ℕ × ℕ))
     (row : ObjectRow T) (n slot : ℕ)
-    (h : IsNumbered (λ r. r.number) slots numbers most) (k : IsNamed slots cells others)
+    (h : IsNumbered (λ r. r.number) slots numbers most) (k : IsNamed slots names)
     (at : lookup (nat_eq n) numbers ≡ Some slot)
     (here : row_in_slot slots slot ≡ Some row)
-    (still : (t : List ℕ) (s : ℕ) → same_name row.name t ≡ false
-    → lookup (nat_eq n) numbers ≢ Some s → IsFiled cells others t s
-    → IsFiled cells' others' t s) where
-  apart_from : (s : ℕ) (t : List ℕ) → name_in (set slots slot None) s ≡ Some t → s ≢ slot
-  apart_from s t e = other_slot row n slot h at here (λ r. r.name) s t e
-
-  had : (s : ℕ) (t : List ℕ) → name_in (set slots slot None) s ≡ Some t → name_in slots s ≡ Some t
-  had s t e =
-      sym (ap (option_map (λ r. r.name)) (kept row n slot h at here s (apart_from s t e))) ∙ e
-
+    (now : IsSet names row.name None names') where
   filed_left : (s : ℕ) (t : List ℕ) → name_in (set slots slot None) s ≡ Some t
-      → IsFiled cells' others' t s
+      → lookup (same_name t) names' ≡ Some s
   filed_left s t e =
-      let apart = apart_from s t e in
-      let own : name_in slots slot ≡ Some row.name = ap (option_map (λ r. r.name)) here in
+      let apart = other_slot row n slot h at here (λ r. r.name) s t e in
+      let had : name_in slots s ≡ Some t =
+      sym (ap (option_map (λ r. r.name)) (kept row n slot h at here s apart)) ∙ e in
+      let own = k.filed slot row.name (ap (option_map (λ r. r.name)) here) in
       let other : row.name ≢ t = λ is.
-      apart (k.once t s slot (had s t e) (own ∙ ap Some is)) in
-      still t s (differ row.name t other) (λ is. apart (some_inj (sym is ∙ at)))
-      (k.filed s t (had s t e))
+      apart (some_inj (sym (k.filed s t had) ∙ ap (λ u. lookup (same_name u) names) (sym is) ∙ own)) in
+      now t ∙ ap (λ b. cond b None (lookup (same_name t) names)) (differ row.name t other)
+      ∙ k.filed s t had
 
-  pub IsNamed-removed : IsNamed (set slots slot None) cells' others'
-  IsNamed-removed =
-      record {
-        once = λ t s j at_s at_j. k.once t s j (had s t at_s) (had j t at_j);
-        filed = filed_left;
-      }
+  pub IsNamed-removed : IsNamed (set slots slot None) names'
+  IsNamed-removed = record { filed = filed_left }
 
 -- the same for the rows that `take_out` leaves
 pub named_removed : {T : Type 0} {slots : List (Option (ObjectRow T))} {numbers : List (ℕ × ℕ)}
-    {cells : Cells} {others : List (List ℕ × ℕ)} {most : ℕ}
-    → IsNumbered (λ r. r.number) slots numbers most → IsNamed slots cells others
+    {names : List (List ℕ × ℕ)} {most : ℕ}
+    → IsNumbered (λ r. r.number) slots numbers most → IsNamed slots names
     → (n : ℕ) (new : List (Option (ObjectRow T))) (row : ObjectRow T)
     → (slot : ℕ) × (lookup (nat_eq n) numbers ≡ Some slot)
     × (row_in_slot slots slot ≡ Some row) × (new ≡ set slots slot None)
-    → (cells' : Cells) (others' : List (List ℕ × ℕ))
-    → ((t : List ℕ) (s : ℕ) → same_name row.name t ≡ false
-    → lookup (nat_eq n) numbers ≢ Some s → IsFiled cells others t s → IsFiled cells' others' t s)
-    → IsNamed new cells' others'
-named_removed h k n new row taken cells' others' still =
-    rw taken.3 (IsNamed-removed cells' others' row n taken.0 h k taken.1 taken.2 still)
+    → (names' : List (List ℕ × ℕ)) → IsSet names row.name None names' → IsNamed new names'
+named_removed h k n new row taken names' now =
+    rw taken.3 (IsNamed-removed names' row n taken.0 h k taken.1 taken.2 now)
 
 -- the same for a new row, in a table that first made room
 pub named_added : {T : Type 0} {slots : List (Option (ObjectRow T))} {numbers : List (ℕ × ℕ)}
-    {cells : Cells} {others : List (List ℕ × ℕ)} {most : ℕ}
-    → IsNumbered (λ r. r.number) slots numbers most → IsNamed slots cells others
+    {names : List (List ℕ × ℕ)} {most : ℕ}
+    → IsNumbered (λ r. r.number) slots numbers most → IsNamed slots names
     → (rows : List (ObjectRow T)) → rows_listed slots numbers ≡ rows
-    → (roomy : List (Option (ObjectRow T))) (roomy_cells : Cells)
-    (roomy_others : List (List ℕ × ℕ))
-    → roomy ≡ slots → roomy_cells ≡ cells → AreKept others roomy_others
-    → (new : List (Option (ObjectRow T))) (cells' : Cells) (others' : List (List ℕ × ℕ))
+    → (roomy : List (Option (ObjectRow T))) (roomy_names : List (List ℕ × ℕ))
+    → roomy ≡ slots → roomy_names ≡ names
+    → (new : List (Option (ObjectRow T))) (names' : List (List ℕ × ℕ))
     → (row : ObjectRow T) (key : ℕ) → row_in_slot new key ≡ Some row
     → ((s : ℕ) → s ≢ key → row_in_slot new s ≡ row_in_slot roomy s)
-    → IsFiled cells' others' row.name key
-    → ((t : List ℕ) (s : ℕ) → same_name row.name t ≡ false → IsFiled roomy_cells roomy_others t s
-    → IsFiled cells' others' t s)
-    → object_named rows row.name ≡ None → IsNamed new cells' others'
-named_added h k rows view roomy roomy_cells roomy_others same same_cells same_others new cells'
-    others' row key here others filed still free =
-    let as_named : IsNamed roomy roomy_cells roomy_others =
-    named-same _ _ _ _ _ _ same same_cells same_others k in
+    → IsSet roomy_names row.name (Some key) names'
+    → object_named rows row.name ≡ None → IsNamed new names'
+named_added h k rows view roomy roomy_names same same_names new names' row key here others now
+    free =
+    let as_named : IsNamed roomy roomy_names = rw (same, same_names) k in
     let no_slot : (s : ℕ) → name_in roomy s ≢ Some row.name =
     rw same (name_free h k rows view row.name free) in
-    IsNamed-added new row key cells' others' as_named here others no_slot filed still
+    IsNamed-added new row key names' as_named here others no_slot now
 
 -- a number and a name that are not taken have no row
 pub number_free : {T : Type 0} (rows : List (ObjectRow T)) (n : ℕ) (t : List ℕ)

@@ -8,7 +8,7 @@ use Rattle.pt_table.specs.declared.link.Link.{Link}
 use Rattle.pt_table.specs.declared.objects.ObjectRow.{ObjectRow}
 use Rattle.pt_table.specs.Rows.{row_at, without, changed_at}
 use Rattle.pt_table.specs.Slots.{IsNumbered}
-use Rattle.pt_table.specs.NameSlots.{Cells, IsNamed}
+use Rattle.pt_table.specs.NameSlots.{IsNamed}
 
 -- the link of a row that is in no chain
 abbrev pub out_of_chains : Link
@@ -84,7 +84,7 @@ module _ {T : Type 0} where
 
   -- the numbers list each object exactly once, its name leads to it, and there are at most 4,096
   -- objects
-  abbrev pub AreObjects : List (Option (ObjectRow T)) → List (ℕ × ℕ) → Cells
-      → List (List ℕ × ℕ) → Type 0
-  AreObjects slots numbers cells others =
-      IsNumbered (λ row. row.number) slots numbers most_objects × IsNamed slots cells others
+  abbrev pub AreObjects : List (Option (ObjectRow T)) → List (ℕ × ℕ) → List (List ℕ × ℕ)
+      → Type 0
+  AreObjects slots numbers names =
+      IsNumbered (λ row. row.number) slots numbers most_objects × IsNamed slots names

@@ -13,12 +13,10 @@ ghost use Rattle.pt_table.specs.declared.link.Link.{Link};
 
 use crate::fault::TableFault;
 use crate::link::Link;
-use crate::names::{Names, place_of};
+use crate::names::Names;
 use crate::numbers::Numbers;
-use crate::object_slots::{
-    make_room_named, put_named, row_named, row_of, slot_by, slot_by_hint, take_named,
-};
-use crate::rows::nth_row;
+use crate::object_slots::{row_named, row_of, slot_by, slot_by_hint};
+use crate::rows::{make_room, nth_row, put, take_out};
 use crate::stored_link::StoredLink;
 use pt_types::{MOST_OBJECTS, Name};
 use slab::Slab;
@@ -66,8 +64,7 @@ impl<T, A: Allocator + Copy> Model for Objects<T, A> {
 
     ghost view = { λ o. rows_listed o.rows.slots o.numbers.entries };
 
-    ghost invariant = { λ o. AreObjects o.rows.slots o.numbers.entries
-        o.names.cells o.names.others };
+    ghost invariant = { λ o. AreObjects o.rows.slots o.numbers.entries o.names.slots.entries };
 }
 
 // Not derived, so that code that drops the table need not prove anything about its parts.
@@ -285,7 +282,8 @@ impl<T, A: Allocator + Copy> Objects<T, A> {
         ensures value { result ≡ object_value self.old number }
         ensures rows { self.new ≡ without_object self.old number }
     {
-        let row = take_named(&mut self.rows, &mut self.numbers, &mut self.names, number)?;
+        let row = take_out(&mut self.rows, &mut self.numbers, number)?;
+        self.names.forget(&row.name);
         let ObjectRow {
             number: _,
             name: _,
@@ -303,6 +301,32 @@ impl<T, A: Allocator + Copy> Objects<T, A> {
         self.numbers.pack();
     }
 
+    // Adds an object whose number and name are new, or returns its value if a growth is refused.
+    #[inline(always)]
+    fn enter(&mut self, number: u64, name: &Name, value: T) -> Result<(), T>
+        requires new { is_taken self.old number name.now ≡ false }
+        requires room { length self.old < most_objects }
+        ensures ok { OnOk result (self.new ≡ and_object self.old number name.now value) }
+        ensures err { OnErr result (self.new ≡ self.old) }
+        ensures handed { IfErr result (λ handed. handed ≡ value) }
+    {
+        if make_room(&mut self.rows, &mut self.numbers).is_err() {
+            return Err(value);
+        }
+        if self.names.reserve_one().is_err() {
+            return Err(value);
+        }
+        let row = ObjectRow {
+            number,
+            name: name.copied(),
+            value,
+            link: StoredLink::of(Link::out()),
+        };
+        let slot = put(&mut self.rows, &mut self.numbers, number, row);
+        self.names.insert(name, slot);
+        Ok(())
+    }
+
     /// Adds an object whose number and name are new. There must be fewer than 4,096 objects.
     ///
     /// # Errors
@@ -318,29 +342,10 @@ impl<T, A: Allocator + Copy> Objects<T, A> {
         ensures ok { OnOk result (self.new ≡ and_object self.old number name.now value) }
         ensures err { OnErr result (self.new ≡ self.old) }
     {
-        let place = place_of(name);
-        make_room_named(
-            &mut self.rows,
-            &mut self.numbers,
-            &mut self.names,
-            name,
-            place,
-        )?;
-        let row = ObjectRow {
-            number,
-            name: name.copied(),
-            value,
-            link: StoredLink::of(Link::out()),
-        };
-        put_named(
-            &mut self.rows,
-            &mut self.numbers,
-            &mut self.names,
-            row,
-            name,
-            place,
-        );
-        Ok(())
+        match self.enter(number, name, value) {
+            Ok(()) => Ok(()),
+            Err(_) => Err(AllocError),
+        }
     }
 
     /// Adds an object with its value, or returns the value with the fault that prevented it.
@@ -364,32 +369,9 @@ impl<T, A: Allocator + Copy> Objects<T, A> {
         if self.len() >= MOST_OBJECTS {
             return Err((value, TableFault::AtLimit));
         }
-        let place = place_of(&name);
-        if make_room_named(
-            &mut self.rows,
-            &mut self.numbers,
-            &mut self.names,
-            &name,
-            place,
-        )
-        .is_err()
-        {
-            return Err((value, TableFault::Memory));
+        match self.enter(number, &name, value) {
+            Ok(()) => Ok(()),
+            Err(value) => Err((value, TableFault::Memory)),
         }
-        let row = ObjectRow {
-            number,
-            name: name.copied(),
-            value,
-            link: StoredLink::of(Link::out()),
-        };
-        put_named(
-            &mut self.rows,
-            &mut self.numbers,
-            &mut self.names,
-            row,
-            &name,
-            place,
-        );
-        Ok(())
     }
 }

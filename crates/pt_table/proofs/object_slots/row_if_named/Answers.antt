@@ -11,30 +11,20 @@ use Rattle.pt_table.proofs.object_slots.row_if_named.Goals.{in_default-via-in-So
 use Rattle.pt_table.proofs.object_slots.row_if_named.Goals.{in_default-via-in_default}
 use Rattle.pt_table.proofs.object_slots.row_if_named.Goals as goal
 
-module _ {T : Type 0} (slots : List (Option (ObjectRow T))) (slot : Option ℕ) (k : ℕ)
-    (name : List ℕ) (is : slot ≡ Some k) where
-  not_there : row_in_slot slots k ≡ None → (s : ℕ) → slot ≡ Some s
-      → name_in slots s ≡ Some name → ⊥
-  not_there none s at there =
-      let same : k ≡ s = some_inj (sym is ∙ at) in
-      none_some (sym (ap (option_map (λ row. row.name)) none) ∙ ap (name_in slots) same ∙ there)
+module _ {T : Type 0} (slots : List (Option (ObjectRow T))) (s : ℕ) (name : List ℕ) where
+  not_there : row_in_slot slots s ≡ None → name_in slots s ≡ Some name → ⊥
+  not_there none there = none_some (sym (ap (option_map (λ row. row.name)) none) ∙ there)
 
-  another : (row : ObjectRow T) → row_in_slot slots k ≡ Some row
-      → same_name row.name name ≡ false → (s : ℕ) → slot ≡ Some s
-      → name_in slots s ≡ Some name → ⊥
-  another row here other s at there =
-      let same : k ≡ s = some_inj (sym is ∙ at) in
+  another : (row : ObjectRow T) → row_in_slot slots s ≡ Some row
+      → same_name row.name name ≡ false → name_in slots s ≡ Some name → ⊥
+  another row here other there =
       let own : row.name ≡ name =
-      some_inj (sym (ap (option_map (λ r. r.name)) here) ∙ ap (name_in slots) same ∙ there) in
+      some_inj (sym (ap (option_map (λ r. r.name)) here) ∙ there) in
       true≢false (sym ((bytes_eq-Decides row.name name).1 own) ∙ other)
-
-pub returns-in_err-slot : goal.returns-in_err-slot
-returns-in_err-slot g c =
-    rw c.from_residual.ensures (λ s at there. none_some (sym c.in_err-slot.was ∙ at))
 
 pub returns-in-Some : goal.returns-in-Some
 returns-in-Some g c = (
-  c.in_ok-slot.field-0,
+  c.args.slot,
   sym c.in-Some.ensures,
   true-same c.in-Some.row.now.name c.args.name.now (sym c.is_same.ensures ∙ c.if-is_same.true),
 )
@@ -43,10 +33,9 @@ pub returns-in_default : goal.returns-in_default
 returns-in_default g c =
     elim c.in_default.branch [
       | in_default-via-in-Some+else-is_same w ↦
-          another c.args.rows.now.slots c.args.slot c.in_ok-slot.field-0 c.args.name.now
-          c.in_ok-slot.was w.in-Some.row.now (sym w.in-Some.ensures)
-          (sym w.is_same.ensures ∙ w.if-is_same.false)
+          another c.args.rows.now.slots c.args.slot c.args.name.now w.in-Some.row.now
+          (sym w.in-Some.ensures) (sym w.is_same.ensures ∙ w.if-is_same.false)
       | in_default-via-in_default w ↦
-          not_there c.args.rows.now.slots c.args.slot c.in_ok-slot.field-0 c.args.name.now
-          c.in_ok-slot.was (sym c.get.ensures ∙ ap option_copied w.in_default.is)
+          not_there c.args.rows.now.slots c.args.slot c.args.name.now
+          (sym c.get.ensures ∙ ap option_copied w.in_default.is)
     ]

@@ -5,5 +5,5 @@ use Rattle.pt_table.proofs.objects.Objects.new.Goals as goal
 pub invariant_of-result : goal.invariant_of-result
 invariant_of-result g c = (
   numbered-none _ _ [] _ [] _ c.new.ensures.empty c.new-2.ensures,
-  named-none _ [] _ c.new-3.result.cells _ [] c.new.ensures.empty,
+  named-none _ [] _ [] c.new.ensures.empty,
 )
