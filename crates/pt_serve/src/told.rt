@@ -22,11 +22,20 @@ pub(crate) fn tell<T: Drop, E: Sink + Drop>(end: Result<T, ServeFault>, errors: 
     ensures told { Tells (output E.taken E.flushed E.failures E.rejections) errors (fault_in end)
         result.errors }
 {
-    let mut errors = errors;
-    if let Err(fault) = &end {
-        report(&mut errors, *fault);
+    match end {
+        Ok(value) => Told {
+            end: Ok(value),
+            errors,
+        },
+        Err(fault) => {
+            let mut errors = errors;
+            report(&mut errors, fault);
+            Told {
+                end: Err(fault),
+                errors,
+            }
+        }
     }
-    Told { end, errors }
 }
 
 /// Puts another value in place of what something ended with, if it had no fault.

@@ -1,4 +1,4 @@
-use Rattle.std.proofs.Common.{◌≡◌, ◌∙◌, subst}
+use Rattle.std.proofs.Common.{◌≡◌, subst}
 use Rattle.pt_session.specs.Outputs.{output}
 use Rattle.pt_serve.specs.Faults.{report_of}
 use Rattle.pt_serve.specs.Served.{IsReported}
