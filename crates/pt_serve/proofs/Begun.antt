@@ -1,13 +1,12 @@
 -- Texts that a writer took in part.
-use Rattle.std.specs.Prelude.{Result, Ok, Err, OnOk, OnErr, IfOk, IfErr}
-use Rattle.std.specs.Result.{IsErrAnd}
+use Rattle.std.specs.Prelude.{Result, Ok, Err, OnOk, OnErr}
 use Rattle.std.proofs.Common.{◌≡◌, ℕ, ◌-◌, ◌≤◌, List, [], ◌++◌, length, take, drop}
 use Rattle.std.proofs.Common.{append_assoc, append-nil, sym, ap, subst, refl, ◌∙◌, arith}
-use Rattle.std.proofs.Common.{length-append, length-drop, take_all}
+use Rattle.std.proofs.Common.{length-append, length-drop, take_all, inl, inr}
 use Rattle.std.proofs.lemmas.List.{take-append-drop, take-append-le, drop-append-le}
 use Rattle.std.proofs.Math.Seq.{take-append_seam, drop-append_seam}
-use Rattle.pt_session.specs.Outputs.{IsCutShort}
-use Rattle.pt_serve.specs.Served.{IsServiceBegun, closed_line, ready_line}
+use Rattle.pt_session.specs.Outputs.{IsBroken, IsCutShort, Output}
+use Rattle.pt_serve.specs.Served.{IsReported, IsServiceBegun, closed_line, ready_line}
 
 -- the bytes by which a text grew, and those that remain
 pub begun : (old bytes text rest : List ℕ) → text ++ rest ≡ old ++ bytes
@@ -91,24 +90,10 @@ pub on_err : {T E : Type 0} (r : Result T E) (P : Type 0) → P → OnErr r P
 on_err (Ok x) P p = tt
 on_err (Err e) P p = p
 
--- what holds of each error
-pub each_err : {T E : Type 0} (r : Result T E) (P : E → Type 0) → ((e : E) → P e) → IfErr r P
-each_err (Ok x) P all = tt
-each_err (Err e) P all = all e
-
--- an error that is returned is this one
-pub told_err : {T E : Type 0} (r : Result T E) (e : E) (P : E → Type 0)
-    → IsErrAnd r (λ f. f ≡ e) → P e → IfErr r P
-told_err (Ok x) e P told holds = absurd told
-told_err (Err f) e P told holds = subst P (sym told) holds
-
--- if there is an error, nothing is claimed about a success
-pub no_ok : {T E : Type 0} (r : Result T E) (e : E) (P : Type 0) → IsErrAnd r (λ f. f ≡ e)
-    → OnOk r P
-no_ok (Ok x) e P told = absurd told
-no_ok (Err f) e P told = tt
-
-pub no_good : {T E : Type 0} (r : Result T E) (e : E) (P : T → Type 0) → IsErrAnd r (λ f. f ≡ e)
-    → IfOk r P
-no_good (Ok x) e P told = absurd told
-no_good (Err f) e P told = tt
+-- a line is written and flushed, or the writer broke
+pub reported : {T E : Type 0} (F R : Type 0) (r : Result T E) (old line : List ℕ) (o : Output)
+    → OnOk r ((o.taken ≡ old ++ line) × (o.flushed ≡ o.taken) × F × R)
+    → IsCutShort old line o.taken → OnErr r (IsBroken o.failures o.rejections)
+    → IsReported old line o
+reported F R (Ok x) old line o told cut broke = inl (told.0, told.1 ∙ told.0)
+reported F R (Err e) old line o told cut broke = inr (cut, broke)

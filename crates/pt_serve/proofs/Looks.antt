@@ -1,13 +1,34 @@
 -- Looks at a clock.
-use Rattle.std.specs.Prelude.{◌≡◌, ℕ, ◌++◌, List, [], ◌∷◌, Result, Ok, Err, OnOk, OnErr}
-use Rattle.std.proofs.Common.{ap}
+use Rattle.std.specs.Prelude.{◌≡◌, ℕ, ◌++◌, List, [], ◌∷◌, Result, Ok, Err, OnOk, OnErr, Option}
+use Rattle.std.specs.Prelude.{Some, true, option_map}
+use Rattle.std.proofs.Common.{ap, sym, ◌∙◌}
+use Rattle.std.specs.declared.time.Duration.{Duration}
+use Rattle.std.specs.Duration.{as_nanos}
 use Rattle.pt_types.specs.declared.time.Clock.{Clock}
+use Rattle.pt_model.specs.Queries.{least_deadline}
+use Rattle.pt_legal.specs.Cores.{past}
+use Rattle.pt_hub.specs.Desks.{kept}
 use Rattle.pt_hub.specs.Passes.{ClockView}
-use Rattle.pt_serve.specs.Clocks.{IsLookedAt, nothing, ticks}
+use Rattle.pt_session.specs.Stays.{Found}
+use Rattle.pt_serve.specs.Clocks.{IsLookedAt, is_due, nothing, ticks}
+
+-- the least deadline was read under the lock, and it was due
+pub due : (clock : Clock) (least : Option ℕ) (moment : ℕ)
+    → Found (λ hub. least ≡ least_deadline (past (kept hub.desk)) clock)
+    → is_due least moment ≡ true
+    → Found (λ hub. is_due (least_deadline (past (kept hub.desk)) clock) moment ≡ true)
+due clock least moment found is = record {
+  hub = found.hub;
+  fits = found.fits;
+  so = ap (λ l. is_due l moment) (sym found.so) ∙ is;
+}
 
 -- a moment that was handed in, or refused
-pub looked : {T E : Type 0} (r : Result T E) (clock : Clock) (moment : ℕ) (old new : ClockView)
+pub looked : {T E : Type 0} (r : Result T E) (clock : Clock) (reading : Option Duration)
+    (moment : ℕ) (old new : ClockView) → option_map as_nanos reading ≡ Some moment
+    → Found (λ hub. is_due (least_deadline (past (kept hub.desk)) clock) moment ≡ true)
     → OnOk r (new.moments ≡ old.moments ++ record { clock = clock; moment = moment } ∷ [])
-    → OnErr r (new ≡ old) → IsLookedAt clock old.moments new.moments
-looked (Ok x) clock moment old new told same = ticks moment told
-looked (Err e) clock moment old new told same = nothing (ap (λ p. p.moments) same)
+    → OnErr r (new ≡ old) → IsLookedAt clock reading old.moments new.moments
+looked (Ok x) clock reading moment old new reads found told same = ticks moment reads found told
+looked (Err e) clock reading moment old new reads found told same =
+    nothing (ap (λ p. p.moments) same)

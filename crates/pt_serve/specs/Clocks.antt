@@ -1,16 +1,25 @@
 -- Clocks: when a server hands in what a clock shows.
-use Rattle.std.specs.Prelude.{ℕ, ◌≡◌, ◌⊎◌, ◌++◌, Bool, false, nat_le, List, [], ◌∷◌, Option, Some}
-use Rattle.std.specs.Prelude.{None}
+use Rattle.std.specs.Prelude.{ℕ, ◌≡◌, ◌++◌, Bool, true, false, nat_le, List, [], ◌∷◌, Option}
+use Rattle.std.specs.Prelude.{Some, None, option_map}
+use Rattle.std.specs.declared.time.Duration.{Duration}
+use Rattle.std.specs.Duration.{as_nanos}
 use Rattle.pt_types.specs.declared.time.Clock.{Clock}
+use Rattle.pt_model.specs.Queries.{least_deadline}
+use Rattle.pt_legal.specs.Cores.{past}
 use Rattle.pt_hub.specs.declared.pass.Tick.{Tick}
+use Rattle.pt_hub.specs.Desks.{kept}
+use Rattle.pt_session.specs.Stays.{Found}
 
 -- whether a deadline is at or before a moment  [XSH pthread_mutex_timedlock]
 abbrev pub is_due : Option ℕ → ℕ → Bool
 is_due None now = false
 is_due (Some deadline) now = nat_le deadline now
 
--- no moment is handed in, or one moment of this clock  [profile]
-pub data IsLookedAt (clock : Clock) (old new : List Tick) : Type 0 where
-  nothing : new ≡ old → IsLookedAt clock old new
-  ticks : (moment : ℕ) → new ≡ old ++ record { clock = clock; moment = moment } ∷ []
-      → IsLookedAt clock old new
+-- no moment is handed in; or one of this clock is, which is its reading, if a deadline of an open
+-- call was due by it  [profile]
+pub data IsLookedAt (clock : Clock) (reading : Option Duration) (old new : List Tick) : Type 0 where
+  nothing : new ≡ old → IsLookedAt clock reading old new
+  ticks : (moment : ℕ) → option_map as_nanos reading ≡ Some moment
+      → Found (λ hub. is_due (least_deadline (past (kept hub.desk)) clock) moment ≡ true)
+      → new ≡ old ++ record { clock = clock; moment = moment } ∷ []
+      → IsLookedAt clock reading old new

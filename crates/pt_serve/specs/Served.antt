@@ -1,6 +1,9 @@
 -- Served: what a server writes.
-use Rattle.std.specs.Prelude.{ℕ, ◌++◌, List, [], ◌∷◌, codes, decimal}
-use Rattle.pt_session.specs.Outputs.{IsCutShort}
+use Rattle.std.specs.Prelude.{ℕ, ◌≡◌, ◌⊎◌, ◌++◌, List, [], ◌∷◌, codes, decimal, Option, Some, None}
+use Rattle.std.specs.Prelude.{Result, Ok, Err}
+use Rattle.pt_session.specs.Outputs.{IsBroken, IsCutShort, Output}
+use Rattle.pt_serve.specs.declared.fault.ServeFault.{ServeFault}
+use Rattle.pt_serve.specs.Faults.{report_of}
 
 -- the line that says that connections are accepted  [profile]
 abbrev pub ready_line : List ℕ
@@ -14,3 +17,22 @@ closed_line outer = codes "closed " ++ decimal outer ++ 10 ∷ []
 pub record IsServiceBegun (old taken : List ℕ) : Type 0 where
   pub outer : ℕ
   pub begun : IsCutShort old (ready_line ++ closed_line outer) taken
+
+-- the line was written after the old text, and all is flushed; or the writer broke, and a first
+-- part of the line was taken
+abbrev pub IsReported : List ℕ → List ℕ → Output → Type 0
+IsReported old line o =
+    ((o.taken ≡ old ++ line) × (o.flushed ≡ old ++ line))
+    ⊎ (IsCutShort old line o.taken × IsBroken o.failures o.rejections)
+
+-- the fault with which something ended, if it has one
+abbrev pub fault_in : {T : Type 0} → Result T ServeFault → Option ServeFault
+fault_in (Ok x) = None
+fault_in (Err fault) = Some fault
+
+-- a writer of errors, before and after: the fault is reported, and without one nothing is written;
+-- `output` gives what is seen of it
+abbrev pub Tells : {E : Type 0} → (E → E → Output) → E → Option ServeFault → E → Type 0
+Tells output old None new = new ≡ old
+Tells output old (Some fault) new =
+    IsReported (output old old).taken (report_of fault) (output old new)

@@ -1,6 +1,6 @@
 //! The clocks of the system, as the server reads them.
 
-ghost use Rattle.std.specs.Prelude.{◌≡◌, ◌+◌, ◌*◌, ◌⊎◌, ◌∷◌, ◌++◌, [], option_map, IfSome};
+ghost use Rattle.std.specs.Prelude.{◌≡◌, ◌+◌, Some, option_map, IfSome};
 ghost use Rattle.std.specs.Duration.{as_nanos};
 ghost use Rattle.pt_types.specs.Times.{deadline_nanos};
 ghost use Rattle.pt_serve.specs.Clocks.{is_due, IsLookedAt};
@@ -28,7 +28,7 @@ fn elapsed(start: Option<Duration>, now: Option<Duration>) -> Option<Duration>
 // Returns the moment that a clock shows, or `None` if the clock can't be read or shows more than
 // 9,999,999,999 seconds.
 fn moment_of(reading: Option<Duration>) -> Option<Moment>
-    ensures { IfSome result (λ moment. IfSome reading (λ now. moment ≡ as_nanos now)) }
+    ensures { IfSome result (λ moment. option_map as_nanos reading ≡ Some moment) }
 {
     let now = reading?;
     Moment::new(now.as_secs(), u64::from(now.subsec_nanos()))
@@ -53,7 +53,7 @@ fn look<C: LegalHistory, L: Ledger, R: Wait>(
     clock: Clock,
     reading: Option<Duration>,
 )
-    ensures { IsLookedAt clock pass.old.moments pass.new.moments }
+    ensures { IsLookedAt clock reading pass.old.moments pass.new.moments }
 {
     let Some(now) = moment_of(reading) else {
         return;

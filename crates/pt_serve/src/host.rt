@@ -1,11 +1,16 @@
 //! The threads of a server.
 
+ghost use Rattle.std.specs.Prelude.{◌≡◌, ◌≢◌, Some};
+ghost use Rattle.pt_session.specs.Outputs.{output};
+ghost use Rattle.pt_serve.specs.Served.{Tells, fault_in};
+
 use crate::clock::tick;
-use crate::fault::HostFault;
+use crate::fault::{HostFault, ServeFault, fault_of};
 use crate::polling::{Connections, PolledReader, PolledWriter};
 use crate::remains::{Remain, Remains};
+use crate::told::{Told, ended_with, tell};
 use pt_hub::ClockPass;
-use pt_io::Counted;
+use pt_io::{Counted, Sink};
 use pt_legal::LegalHistory;
 use pt_session::{ClockMode, OpenGate, Shared, session};
 use std::alloc::Global;
@@ -52,6 +57,10 @@ impl<'a, C: LegalHistory + Send, L: Ledger + Send + Sync, R: Threads + Wait + Cl
     L,
     R,
 > {
+    ghost use Rattle.std.specs.Prelude.{◌≡◌, ◌≢◌, Some};
+    ghost use Rattle.pt_session.specs.Outputs.{output};
+    ghost use Rattle.pt_serve.specs.Served.{Tells, fault_in};
+
     // Serves one connection, and stores what its session leaves. The connection is closed as the
     // session ends or is refused.
     fn converse(&self, stream: UnixStream) {
@@ -85,9 +94,9 @@ impl<'a, C: LegalHistory + Send, L: Ledger + Send + Sync, R: Threads + Wait + Cl
 
     // Accepts connections, and serves each in a thread of its own. A connection that is refused its
     // thread is closed. The listener is closed at the end, so that nobody waits in its queue.
-    fn accept_in<'s, E>(
+    fn accept_in<'s, Z>(
         &'s self,
-        scope: &Scope<'s, E>,
+        scope: &Scope<'s, Z>,
         listener: UnixListener,
     ) -> Result<(), HostFault> {
         let mut accepted: u64 = 0;
@@ -112,41 +121,102 @@ impl<'a, C: LegalHistory + Send, L: Ledger + Send + Sync, R: Threads + Wait + Cl
         Ok(())
     }
 
-    // Does what `accept_in` does, and waits for the sessions.
-    fn accept(&self, listener: UnixListener) -> Result<(), HostFault> {
+    // Does what `accept_in` does, and reports its fault at once: its sessions may still run.
+    fn accept_told<'s, Z, E: Sink + Drop>(
+        &'s self,
+        scope: &Scope<'s, Z>,
+        listener: UnixListener,
+        errors: E,
+    ) -> Told<(), E>
+        requires { E.failures errors ≡ 0 }
+        ensures why { fault_in result.end ≢ Some ServeFault.Write }
+        ensures told { Tells (output E.taken E.flushed E.failures E.rejections) errors
+            (fault_in result.end) result.errors }
+    {
+        match self.accept_in(scope, listener) {
+            Ok(()) => tell(Ok(()), errors),
+            Err(fault) => tell(Err(fault_of(fault)), errors),
+        }
+    }
+
+    // Does what `accept_told` does, and waits for the sessions.
+    fn accept<E: Sink + Drop>(&self, listener: UnixListener, errors: E) -> Told<(), E>
+        requires { E.failures errors ≡ 0 }
+        ensures why { fault_in result.end ≢ Some ServeFault.Write }
+        ensures told { Tells (output E.taken E.flushed E.failures E.rejections) errors
+            (fault_in result.end) result.errors }
+    {
         thread::scope(
             thread::scope_env(),
             self.rt,
-            move |scope| -> Result<(), HostFault> { self.accept_in(scope, listener) },
+            move |scope| -> Told<(), E>
+                requires { E.failures errors ≡ 0 }
+                ensures why { fault_in result.end ≢ Some ServeFault.Write }
+                ensures told { Tells (output E.taken E.flushed E.failures E.rejections) errors
+                    (fault_in result.end) result.errors }
+            { self.accept_told(scope, listener, errors) },
         )
     }
 
     // Does what `accept` does, while another thread hands in the clocks of the system. Returns
     // their pass.
-    fn accept_by_clock(
+    fn accept_by_clock<E: Sink + Drop>(
         &self,
         listener: UnixListener,
         clock: ClockPass<L>,
-    ) -> Result<ClockPass<L>, HostFault> {
+        errors: E,
+    ) -> Told<ClockPass<L>, E>
+        requires { E.failures errors ≡ 0 }
+        ensures why { fault_in result.end ≢ Some ServeFault.Write }
+        ensures told { Tells (output E.taken E.flushed E.failures E.rejections) errors
+            (fault_in result.end) result.errors }
+    {
         thread::scope(
             thread::scope_env(),
             self.rt,
-            move |scope| -> Result<ClockPass<L>, HostFault> {
+            move |scope| -> Told<ClockPass<L>, E>
+                requires { E.failures errors ≡ 0 }
+                ensures why { fault_in result.end ≢ Some ServeFault.Write }
+                ensures told { Tells (output E.taken E.flushed E.failures E.rejections) errors
+                    (fault_in result.end) result.errors }
+            {
                 let Ok(ticking) = scope.spawn(move || tick(self.rt, self.shared, clock)) else {
-                    return Err(HostFault::Thread);
+                    return tell(Err(ServeFault::Thread), errors);
                 };
-                let served = self.accept(listener);
+                let served = self.accept(listener, errors);
                 self.shared.finish(self.rt);
-                let clock = ticking.join(self.rt);
-                served?;
-                Ok(clock)
+                ended_with(served, ticking.join(self.rt))
             },
         )
+    }
+
+    // Accepts connections in the clock mode of the server, and returns the pass of its clocks.
+    fn accept_all<E: Sink + Drop>(
+        &self,
+        listener: UnixListener,
+        clock: ClockPass<L>,
+        errors: E,
+    ) -> Told<ClockPass<L>, E>
+        requires { E.failures errors ≡ 0 }
+        ensures why { fault_in result.end ≢ Some ServeFault.Write }
+        ensures told { Tells (output E.taken E.flushed E.failures E.rejections) errors
+            (fault_in result.end) result.errors }
+    {
+        match self.mode {
+            ClockMode::System => self.accept_by_clock(listener, clock, errors),
+            ClockMode::Lines => ended_with(self.accept(listener, errors), clock),
+        }
     }
 }
 
 /// Serves `sessions` connections, or goes on without end if that is 0, and returns what they leave.
-pub fn host<C: LegalHistory + Send, L: Ledger + Send + Sync, R: Threads + Wait + Clock + Sync>(
+/// A fault is reported as it comes.
+pub fn host<
+    C: LegalHistory + Send,
+    L: Ledger + Send + Sync,
+    R: Threads + Wait + Clock + Sync,
+    E: Sink + Drop,
+>(
     rt: &R,
     alloc: Global,
     listener: UnixListener,
@@ -154,7 +224,13 @@ pub fn host<C: LegalHistory + Send, L: Ledger + Send + Sync, R: Threads + Wait +
     clock: ClockPass<L>,
     mode: ClockMode,
     sessions: u64,
-) -> Result<Remains<L>, HostFault> {
+    errors: E,
+) -> Told<Remains<L>, E>
+    requires { E.failures errors ≡ 0 }
+    ensures why { fault_in result.end ≢ Some ServeFault.Write }
+    ensures told { Tells (output E.taken E.flushed E.failures E.rejections) errors
+        (fault_in result.end) result.errors }
+{
     let server = Server {
         rt,
         alloc,
@@ -164,15 +240,20 @@ pub fn host<C: LegalHistory + Send, L: Ledger + Send + Sync, R: Threads + Wait +
         connections: Connections::new(),
         remains: Mutex::new(Remains::new(alloc)),
     };
-    let clock = match mode {
-        ClockMode::System => server.accept_by_clock(listener, clock)?,
-        ClockMode::Lines => {
-            server.accept(listener)?;
-            clock
+    let Told { end, errors } = server.accept_all(listener, clock, errors);
+    match end {
+        Ok(clock) => {
+            let Server { remains, .. } = server;
+            let mut remains = remains.into_inner();
+            remains.add_clock(clock);
+            Told {
+                end: Ok(remains),
+                errors,
+            }
         }
-    };
-    let Server { remains, .. } = server;
-    let mut remains = remains.into_inner();
-    remains.add_clock(clock);
-    Ok(remains)
+        Err(fault) => Told {
+            end: Err(fault),
+            errors,
+        },
+    }
 }

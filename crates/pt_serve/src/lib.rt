@@ -1,7 +1,8 @@
 //! The server of a Unix socket: one session for each connection, over one hub.
 //!
-//! Contracts see what is written to `out`. Only tests show which bytes a socket carried, that each
-//! connection has its own session over its own stream, and when the clock is read.
+//! Contracts see what is written to `out`, and what is reported on `errors`. Only tests show which
+//! bytes a socket carried, that each connection has its own session over its own stream, that a
+//! fault is reported at once, and when the clock is read.
 #![tactic(auto)]
 
 mod clock;
@@ -11,7 +12,9 @@ mod output;
 mod polling;
 mod remains;
 mod server;
+mod told;
 
 pub use fault::ServeFault;
-pub use output::{report, status_of};
+pub use output::status_of;
 pub use server::serve;
+pub use told::Told;

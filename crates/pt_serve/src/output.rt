@@ -2,8 +2,8 @@
 
 ghost use Rattle.std.specs.Prelude.{◌≡◌, ◌<◌, ◌≤◌, ◌+◌, ◌-◌, ◌++◌, length, take, true, false};
 ghost use Rattle.std.specs.Prelude.{IsTrue, OnOk, OnErr, IfErr};
-ghost use Rattle.pt_session.specs.Outputs.{IsBroken, IsCutShort};
-ghost use Rattle.pt_serve.specs.Served.{closed_line, ready_line};
+ghost use Rattle.pt_session.specs.Outputs.{IsBroken, IsCutShort, output};
+ghost use Rattle.pt_serve.specs.Served.{IsReported, closed_line, ready_line};
 ghost use Rattle.pt_serve.specs.Faults.{close_words, report_of, status_of, words_of};
 
 use crate::fault::ServeFault;
@@ -190,10 +190,12 @@ fn report_of(fault: ServeFault) -> ArrayVec<u8, 96>
     line
 }
 
-/// Reports a fault in one line. A fault of this writer itself is not reported anywhere.
+/// Reports a fault in one line, and flushes it. A fault of this writer itself is not reported
+/// anywhere.
 pub fn report<W: Sink>(errors: &mut W, fault: ServeFault)
     requires { W.failures errors.old ≡ 0 }
-    ensures begun { IsCutShort (W.taken errors.old) (report_of fault) (W.taken errors.new) }
+    ensures { IsReported (W.taken errors.old) (report_of fault)
+        (output W.taken W.flushed W.failures W.rejections errors.old errors.new) }
 {
     let _ = say(errors, report_of(fault).as_slice());
 }

@@ -1,11 +1,12 @@
-ghost use Rattle.std.specs.Prelude.{◌≡◌, ◌≢◌, ◌^◌, ◌-◌, ◌++◌, [], OnOk, OnErr, IfOk, IfErr};
+ghost use Rattle.std.specs.Prelude.{◌≡◌, ◌≢◌, ◌^◌, ◌-◌, ◌++◌, [], Some, OnOk, OnErr, IfOk, IfErr};
 ghost use Rattle.pt_legal.specs.Cores.{IsEmpty, shown};
-ghost use Rattle.pt_session.specs.Outputs.{IsBroken};
-ghost use Rattle.pt_serve.specs.Served.{IsServiceBegun, closed_line, ready_line};
+ghost use Rattle.pt_session.specs.Outputs.{IsBroken, output};
+ghost use Rattle.pt_serve.specs.Served.{IsServiceBegun, Tells, closed_line, fault_in, ready_line};
 
-use crate::fault::{ServeFault, fault_of};
+use crate::fault::ServeFault;
 use crate::host::host;
 use crate::output::{say_closed, say_ready};
+use crate::told::{Told, tell};
 use pt_bells::Peers;
 use pt_hub::{ClockPass, Closed, Hub};
 use pt_io::Sink;
@@ -25,7 +26,12 @@ use std::time::Clock;
 const SHARES: u64 = 1 << 63;
 
 // Serves with this ledger on a socket that listens. `ready` is written before this.
-fn serve_ready<C: LegalHistory + Send, L: Ledger + Send + Sync, R: Threads + Wait + Clock + Sync>(
+fn serve_ready<
+    C: LegalHistory + Send,
+    L: Ledger + Send + Sync,
+    R: Threads + Wait + Clock + Sync,
+    E: Sink + Drop,
+>(
     rt: &R,
     alloc: Global,
     core: C,
@@ -34,19 +40,48 @@ fn serve_ready<C: LegalHistory + Send, L: Ledger + Send + Sync, R: Threads + Wai
     peers: Peers,
     mode: ClockMode,
     sessions: u64,
-) -> Result<Closed, ServeFault>
+    errors: E,
+) -> Told<Closed, E>
     requires empty { IsEmpty (shown (C.seen core)) }
     requires name { (blank.name ≡ L.name) × (blank.parts ≡ L.parts) }
     requires parts { blank.parts ≡ 2 ^ 63 }
-    ensures { IfErr result (λ fault. fault ≢ ServeFault.Write) }
+    requires errors { E.failures errors ≡ 0 }
+    ensures why { fault_in result.end ≢ Some ServeFault.Write }
+    ensures told { Tells (output E.taken E.flushed E.failures E.rejections) errors
+        (fault_in result.end) result.errors }
 {
     // A server without end never closes its hub, so nobody reads what receipts have seen.
     let heap = if sessions == 0 { None } else { Some(alloc) };
     let (hub, clock): (Hub<C, L>, ClockPass<L>) = Hub::new(core, alloc, heap, blank);
     let shared = Shared::with_peers(hub, peers);
-    match host(rt, alloc, listener, &shared, clock, mode, sessions) {
-        Ok(remains) => remains.close(shared.into_hub()),
-        Err(fault) => Err(fault_of(fault)),
+    let Told { end, errors } = host(rt, alloc, listener, &shared, clock, mode, sessions, errors);
+    match end {
+        Ok(remains) => tell(remains.close(shared.into_hub()), errors),
+        Err(fault) => Told {
+            end: Err(fault),
+            errors,
+        },
+    }
+}
+
+// Listens on a socket at a path that is not there yet, and makes the set of watched connections.
+fn listen<R: Files + Net>(
+    rt: &R,
+    alloc: Global,
+    path: &str,
+) -> Result<(UnixListener, Peers), ServeFault>
+    ensures { IfErr result (λ fault. fault ≢ ServeFault.Write) }
+{
+    // The system would make a socket without a name for an empty path.  [XSH bind: ENOENT]
+    if path.is_empty() {
+        return Err(ServeFault::Bind);
+    }
+    let Ok(peers) = Peers::new(rt, alloc) else {
+        return Err(ServeFault::Bind);
+    };
+    match UnixListener::bind(rt, path) {
+        Ok(listener) => Ok((listener, peers)),
+        Err(_) => Err(ServeFault::Bind),
     }
 }
 
@@ -56,10 +91,15 @@ fn serve_ready<C: LegalHistory + Send, L: Ledger + Send + Sync, R: Threads + Wai
 ///
 /// It writes `ready` once it listens, and `closed` with the number of events after the close. A
 /// connection whose thread or session is refused is closed, and counts as one. A connection that
-/// the system refuses for lack of descriptors or memory is accepted later. After a fault the
-/// listener is closed, the server waits for the running sessions, and the history is not closed.
-/// The file at the path stays.
-pub fn serve<C: LegalHistory + Send, W: Sink, R: Files + Net + Threads + Wait + Clock + Sync>(
+/// the system refuses for lack of descriptors or memory is accepted later. A fault is reported in
+/// one line on `errors` as it comes. The listener is then closed, the server waits for the running
+/// sessions, and the history is not closed. The file at the path stays.
+pub fn serve<
+    C: LegalHistory + Send,
+    W: Sink,
+    R: Files + Net + Threads + Wait + Clock + Sync,
+    E: Sink + Drop,
+>(
     rt: &R,
     alloc: Global,
     core: C,
@@ -67,37 +107,53 @@ pub fn serve<C: LegalHistory + Send, W: Sink, R: Files + Net + Threads + Wait + 
     mode: ClockMode,
     sessions: u64,
     out: &mut W,
-) -> Result<Closed, ServeFault>
+    errors: E,
+) -> Told<Closed, E>
     requires empty { IsEmpty (shown (C.seen core)) }
     requires output { W.failures out.old ≡ 0 }
+    requires errors { E.failures errors ≡ 0 }
 
     // Exactly these two lines are written, and all of it is flushed.
-    ensures ok { IfOk result (λ closed.
+    ensures ok { IfOk result.end (λ closed.
         W.taken out.new ≡ (W.taken out.old ++ ready_line) ++ closed_line closed.outer) }
-    ensures out { OnOk result
+    ensures out { OnOk result.end
         ((W.flushed out.new ≡ W.taken out.new) × (W.failures out.new ≡ 0)) }
 
     // After a fault, what is written begins such a text. `Write` is returned only if the writer
     // broke.
-    ensures err { OnErr result (IsServiceBegun (W.taken out.old) (W.taken out.new)) }
-    ensures why { IfErr result (λ fault. fault ≡ ServeFault.Write
+    ensures err { OnErr result.end (IsServiceBegun (W.taken out.old) (W.taken out.new)) }
+    ensures why { IfErr result.end (λ fault. fault ≡ ServeFault.Write
         → IsBroken (W.failures out.new) (W.rejections out.new - W.rejections out.old)) }
+
+    // The fault is reported, in one line. Without one nothing is.
+    ensures told { Tells (output E.taken E.flushed E.failures E.rejections) errors
+        (fault_in result.end) result.errors }
 {
-    // The system would make a socket without a name for an empty path.  [XSH bind: ENOENT]
-    if path.is_empty() {
-        return Err(ServeFault::Bind);
+    let (listener, peers) = match listen(rt, alloc, path) {
+        Ok(listening) => listening,
+        Err(fault) => return tell(Err(fault), errors),
+    };
+    if let Err(fault) = say_ready(out) {
+        return tell(Err(fault), errors);
     }
-    let Ok(peers) = Peers::new(rt, alloc) else {
-        return Err(ServeFault::Bind);
-    };
-    let Ok(listener) = UnixListener::bind(rt, path) else {
-        return Err(ServeFault::Bind);
-    };
-    say_ready(out)?;
     let blank = Blank::new(SHARES);
-    let closed = serve_ready::<C, Brand, R>(
-        rt, alloc, core, blank, listener, peers, mode, sessions,
-    )?;
-    say_closed(out, closed.outer)?;
-    Ok(closed)
+    let Told { end, errors } = serve_ready::<C, Brand, R, E>(
+        rt, alloc, core, blank, listener, peers, mode, sessions, errors,
+    );
+    let closed = match end {
+        Ok(closed) => closed,
+        Err(fault) => {
+            return Told {
+                end: Err(fault),
+                errors,
+            };
+        }
+    };
+    match say_closed(out, closed.outer) {
+        Ok(()) => Told {
+            end: Ok(closed),
+            errors,
+        },
+        Err(fault) => tell(Err(fault), errors),
+    }
 }

@@ -10,13 +10,12 @@
 mod checking;
 
 use checking::run_check;
-use pt_command::{ClockWord, Task, read_task};
+use pt_command::{ClockWord, Service, Task, read_task};
 use pt_core::Core;
 use pt_explain::explain;
-use pt_hub::Closed;
 use pt_io::Counted;
 use pt_script::{ENTRIES_BETWEEN_SEALS, ScriptFault, answer};
-use pt_serve::{ServeFault, serve};
+use pt_serve::serve;
 use pt_session::ClockMode;
 use std::io;
 use std::process::ExitCode;
@@ -56,14 +55,25 @@ fn mode_of(clock: ClockWord) -> ClockMode {
     }
 }
 
-// Reports the fault with which a server ended, if any, and returns the exit status.
-fn end_of(rt: &HostRuntime, served: Result<Closed, ServeFault>) -> ExitCode {
-    match served {
+// Serves, reports a fault on standard error, and returns the exit status.
+fn run_server(rt: &HostRuntime, service: &Service) -> ExitCode {
+    let Ok(core) = Core::with_limit(rt.alloc(), ENTRIES_BETWEEN_SEALS) else {
+        return want_memory(rt);
+    };
+    let mut out = Counted::new(io::writer(rt));
+    let served = serve(
+        rt,
+        rt.alloc(),
+        core,
+        service.path.as_str(),
+        mode_of(service.clock),
+        service.sessions,
+        &mut out,
+        Counted::new(rt.stderr()),
+    );
+    match served.end {
         Ok(_) => ExitCode::SUCCESS,
-        Err(fault) => {
-            pt_serve::report(&mut Counted::new(rt.stderr()), fault);
-            ExitCode::from(pt_serve::status_of(fault))
-        }
+        Err(fault) => ExitCode::from(pt_serve::status_of(fault)),
     }
 }
 
@@ -72,26 +82,7 @@ fn main(rt: HostRuntime) -> ExitCode {
         Task::Script => run_script(&rt),
         Task::Explain => run_explain(&rt),
         Task::Check(traces) => run_check(&rt, &traces),
-        Task::Serve(service) => {
-            let Ok(core) = Core::with_limit(rt.alloc(), ENTRIES_BETWEEN_SEALS) else {
-                return end_of(&rt, Err(ServeFault::Memory));
-            };
-            let mode = mode_of(service.clock);
-            let mut out = Counted::new(io::writer(&rt));
-            let path = service.path.as_str();
-            end_of(
-                &rt,
-                serve(
-                    &rt,
-                    rt.alloc(),
-                    core,
-                    path,
-                    mode,
-                    service.sessions,
-                    &mut out,
-                ),
-            )
-        }
+        Task::Serve(service) => run_server(&rt, &service),
         Task::End(status) => status,
     }
 }

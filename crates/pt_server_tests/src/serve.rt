@@ -28,7 +28,10 @@ fn serve_in_memory<R: Files + Net + Threads + Wait + Clock + Sync>(
 ) -> (Result<Closed, ServeFault>, Vec<u8>) {
     let mut out = Counted::new(Vec::new(alloc));
     let served = match Core::new(alloc) {
-        Ok(core) => serve(rt, alloc, core, path, mode, sessions, &mut out),
+        Ok(core) => {
+            let errors = Counted::new(Vec::new(alloc));
+            serve(rt, alloc, core, path, mode, sessions, &mut out, errors).end
+        }
         Err(_) => Err(ServeFault::Memory),
     };
     (served, out.into_inner())
