@@ -66,6 +66,8 @@ pub(crate) struct PolledReader<'a> {
     stream: &'a TcpStream,
     connections: &'a Connections,
     patience: Patience,
+    /// Whether the socket was made not to block, as it is while it is polled.
+    is_polled: bool,
     /// The number of bytes that were read and are still in the socket.
     seen: usize,
 }
@@ -76,6 +78,7 @@ impl<'a> PolledReader<'a> {
             stream,
             connections,
             patience: Patience::new(),
+            is_polled: false,
             seen: 0,
         }
     }
@@ -89,6 +92,16 @@ impl<'a> PolledReader<'a> {
             if self.seen == 0 {
                 break;
             }
+        }
+        Ok(())
+    }
+
+    // Makes the socket block, or not. It does not block from one poll to the next, so that few
+    // calls of the system are needed.
+    fn set_polled(&mut self, is_polled: bool) -> io::Result<()> {
+        if self.is_polled != is_polled {
+            self.stream.set_nonblocking(is_polled)?;
+            self.is_polled = is_polled;
         }
         Ok(())
     }
@@ -110,17 +123,16 @@ impl<'a> PolledReader<'a> {
     fn look(&mut self, buf: &mut [u8]) -> io::Result<usize>
         ensures { ReadsAtMost result buf.new }
     {
-        if !self.patience.pays() {
-            return self.stream.peek(buf);
+        if self.patience.pays() {
+            self.set_polled(true)?;
+            let found = self.poll(buf);
+            self.patience.note(found.is_some());
+            if let Some(found) = found {
+                return found;
+            }
         }
-        self.stream.set_nonblocking(true)?;
-        let found = self.poll(buf);
-        self.stream.set_nonblocking(false)?;
-        self.patience.note(found.is_some());
-        match found {
-            Some(found) => found,
-            None => self.stream.peek(buf),
-        }
+        self.set_polled(false)?;
+        self.stream.peek(buf)
     }
 
     /// Takes out of the socket the bytes that were already read. A client gets an error if its
@@ -135,6 +147,7 @@ impl<'a> Read for PolledReader<'a> {
     fn read(&mut self, buf: &mut [u8]) -> io::Result<usize> {
         self.take_seen(buf)?;
         if !self.connections.are_few() {
+            self.set_polled(false)?;
             return self.stream.read(buf);
         }
         let found = self.look(buf)?;
