@@ -12,7 +12,7 @@ use crate::finding::{count_to, is_due, late_row, seen_to};
 use crate::tally::{Tally, count};
 use crate::weight::{Weight, weigh};
 use pt_engine::Engine;
-use pt_entries::write_entry_line;
+use pt_entries::write_placed_entry;
 use pt_legal::LegalHistory;
 use pt_lines::Cut;
 use pt_traces::{Answer, Block, Blocks, Rows};
@@ -89,9 +89,10 @@ fn put_entries<C: LegalHistory, A: Allocator + Copy>(
     let end = core.len();
     for place in from..end {
         if let Some(entry) = core.entry(place) {
-            if write_entry_line(out, place, &entry).is_err() {
+            if write_placed_entry(out, place, &entry).is_err() {
                 return Err(CheckFault::Memory);
             }
+            put(out, b"\n")?;
         }
     }
     Ok(())
