@@ -12,12 +12,12 @@ use crate::due::answer_line;
 use crate::fault::CheckFault;
 use crate::found::Found;
 use pt_engine::Engine;
-use pt_legal::LegalHistory;
+use pt_readable::ReadableHistory;
 use pt_traces::{Block, Blocks, wrong_row};
 use std::alloc::Allocator;
 
 // Returns whether the answers in a block are those that are due to its line.
-fn agrees<C: LegalHistory, A: Allocator + Copy>(
+fn agrees<C: ReadableHistory, A: Allocator + Copy>(
     engine: &mut Engine<C, A>,
     alloc: A,
     block: &Block<'_>,
@@ -32,7 +32,7 @@ fn agrees<C: LegalHistory, A: Allocator + Copy>(
 }
 
 // Finds the first block whose answers are not those that are due, if there is one.
-fn find<C: LegalHistory, A: Allocator + Copy>(
+fn find<C: ReadableHistory, A: Allocator + Copy>(
     engine: &mut Engine<C, A>,
     alloc: A,
     mut blocks: Blocks<'_>,
@@ -59,7 +59,7 @@ fn find<C: LegalHistory, A: Allocator + Copy>(
 /// that the rules give to that line, in any order; the word `?` agrees with any. Otherwise the
 /// first line is found at which it differs. Returns the first row that should be an answer and is
 /// none, if there is one, before anything is compared; or `Memory` if a growth was refused.
-pub fn check<C: LegalHistory, A: Allocator + Copy>(
+pub fn check<C: ReadableHistory, A: Allocator + Copy>(
     core: C,
     alloc: A,
     trace: &[u8],

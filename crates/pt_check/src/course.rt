@@ -9,12 +9,12 @@ use crate::appending::{put, put_number};
 use crate::due::answer_line;
 use crate::fault::CheckFault;
 use crate::finding::{count_to, is_due, late_row, seen_to};
+use crate::reasons::Reasons;
 use crate::tally::{Tally, count};
 use crate::weight::{Weight, weigh};
 use pt_engine::Engine;
-use pt_entries::write_placed_entry;
-use pt_legal::LegalHistory;
 use pt_lines::Cut;
+use pt_readable::ReadableHistory;
 use pt_traces::{Answer, Block, Blocks, Rows};
 use std::alloc::Allocator;
 
@@ -22,7 +22,7 @@ use std::alloc::Allocator;
 const MOST_LINES: u64 = 1 << 53;
 
 /// What is known of a trace so far.
-pub struct Course<'a, C: LegalHistory, A: Allocator + Copy> {
+pub struct Course<'a, C: ReadableHistory, A: Allocator + Copy> {
     engine: Engine<C, A>,
     alloc: A,
     name: &'a [u8],
@@ -36,7 +36,7 @@ pub struct Course<'a, C: LegalHistory, A: Allocator + Copy> {
 }
 
 // Not derived, so that code that drops it proves nothing of its parts.
-impl<'a, C: LegalHistory, A: Allocator + Copy> Drop for Course<'a, C, A> {
+impl<'a, C: ReadableHistory, A: Allocator + Copy> Drop for Course<'a, C, A> {
     fn drop(self) {
         let Course {
             engine: _,
@@ -80,25 +80,7 @@ fn put_late<A: Allocator + Copy>(
     put(out, b"\n")
 }
 
-// Appends the entries from a place on.
-fn put_entries<C: LegalHistory, A: Allocator + Copy>(
-    out: &mut Vec<u8, A>,
-    core: &C,
-    from: u64,
-) -> Result<(), CheckFault> {
-    let end = core.len();
-    for place in from..end {
-        if let Some(entry) = core.entry(place) {
-            if write_placed_entry(out, place, &entry).is_err() {
-                return Err(CheckFault::Memory);
-            }
-            put(out, b"\n")?;
-        }
-    }
-    Ok(())
-}
-
-impl<'a, C: LegalHistory, A: Allocator + Copy> Course<'a, C, A> {
+impl<'a, C: ReadableHistory, A: Allocator + Copy> Course<'a, C, A> {
     /// Begins a trace with this name, over an empty core.
     pub fn new(core: C, alloc: A, name: &'a [u8], takes_late: bool) -> Course<'a, C, A>
         requires { shown (C.seen core)
@@ -251,11 +233,11 @@ impl<'a, C: LegalHistory, A: Allocator + Copy> Course<'a, C, A> {
         Ok(weight)
     }
 
-    // Appends the line of a block, its entries, and the answers as they are shown.
+    // Appends the line of a block, its entries and why they came, and the answers as they are shown.
     fn put_block(
         &self,
         block: &Block<'_>,
-        place: u64,
+        reasons: &Reasons,
         out: &mut Vec<u8, A>,
     ) -> Result<(), CheckFault> {
         put(out, self.name)?;
@@ -267,7 +249,7 @@ impl<'a, C: LegalHistory, A: Allocator + Copy> Course<'a, C, A> {
             Cut::Long => put(out, b"<")?,
         }
         put(out, b"\n")?;
-        put_entries(out, self.engine.core(), place)?;
+        reasons.put_rows(out, self.engine.core())?;
         put(out, &self.shown)
     }
 
@@ -279,7 +261,7 @@ impl<'a, C: LegalHistory, A: Allocator + Copy> Course<'a, C, A> {
         later: &Blocks<'_>,
         out: &mut Vec<u8, A>,
     ) -> Result<Weight, CheckFault> {
-        let place = self.engine.entries();
+        let reasons = Reasons::of(&self.engine, block.line());
         let due = self.answer(block.line())?;
         self.shown.clear();
         let missed = self.weigh_all_due(&due, block, later)?;
@@ -289,7 +271,7 @@ impl<'a, C: LegalHistory, A: Allocator + Copy> Course<'a, C, A> {
             return Ok(weight);
         }
         count(&mut self.tally.differing);
-        self.put_block(block, place, out)?;
+        self.put_block(block, &reasons, out)?;
         Ok(weight)
     }
 }

@@ -13,6 +13,7 @@ mod fault;
 mod finding;
 mod found;
 mod laws;
+mod reasons;
 mod reporting;
 mod tally;
 mod weight;

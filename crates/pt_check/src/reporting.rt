@@ -8,7 +8,7 @@ use crate::course::Course;
 use crate::fault::CheckFault;
 use crate::tally::count;
 use crate::weight::Weight;
-use pt_legal::LegalHistory;
+use pt_readable::ReadableHistory;
 use pt_traces::Blocks;
 use std::alloc::Allocator;
 
@@ -25,7 +25,7 @@ fn count_blocks(mut blocks: Blocks<'_>) -> u64 {
 ///
 /// After a difference of words that change nothing it goes on, and after any other it stops. If
 /// `takes_late`, an answer may also come after a later line, but before its client's next line.
-pub fn report<C: LegalHistory, A: Allocator + Copy>(
+pub fn report<C: ReadableHistory, A: Allocator + Copy>(
     core: C,
     alloc: A,
     name: &[u8],

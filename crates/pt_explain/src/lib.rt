@@ -20,4 +20,6 @@ mod reasons;
 mod rows;
 mod whole;
 
+pub use entries::{put_entries, put_refusal};
 pub use program::explain;
+pub use reasons::{own_reason, refused_reason};
