@@ -1,6 +1,7 @@
 """Reads what `ptserver explain` writes: for each line its entries and their reasons, or why it was
 refused, and its answers."""
 
+import os
 import re
 import sys
 from collections import Counter
@@ -81,9 +82,10 @@ def count_step(step, counts):
 
 def read_steps():
     """Yields a step for each line of an explanation on standard input. An empty row ends what is
-    written of a line. Bytes that are no text are shown as such."""
+    written of a line. Bytes that are no text are shown as such. Ends the program if no line has an
+    entry or was refused, since that is no explanation."""
     sys.stdin.reconfigure(encoding="utf-8", errors="replace")
-    counts, line, step = Counter(), 0, None
+    counts, line, step, is_explained = Counter(), 0, None, False
     for row in sys.stdin:
         row = row.rstrip("\n")
         if not row:
@@ -92,9 +94,13 @@ def read_steps():
             step = None
         elif step:
             step.read(row)
+            is_explained |= bool(step.entries or step.refusal)
         else:
             line += 1
             text = row.removeprefix("< ") if row != "<" else ""
             step = Step(line, text.partition(" ")[0], 0, text)
     if step:
         yield count_step(step, counts)
+    if line and not is_explained:
+        name = os.path.basename(sys.argv[0])
+        sys.exit(f"{name}: there is no entry: give it what `ptserver explain` writes")
