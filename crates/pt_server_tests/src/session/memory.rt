@@ -122,7 +122,10 @@ fn are_played_in<L: Ledger + Send + Sync, R: Threads + Wait + Sync>(
         all = all && is_played(rt, alloc, &shared, case, &mut remains);
         events = events.saturating_add(case.events);
     }
-    all && remains.close(shared.into_hub()) == Some(events)
+    let hub = shared.into_hub();
+    // No session seals the history.
+    let has_first = hub.seen(0).is_some() == (events > 0);
+    all && has_first && remains.close(hub) == Some(events)
 }
 
 // Plays these sessions one after another.
