@@ -1,4 +1,3 @@
-mod crossing;
 mod memory;
 mod remains;
 mod sides;
