@@ -1,12 +1,27 @@
 //! The parts of an explanation, each appended to a buffer.
 
-ghost use Rattle.std.specs.Prelude.{◌≡◌, ◌++◌, ◌∷◌, [], true, OnOk, IfErr};
+ghost use Rattle.std.specs.Prelude.{◌≡◌, ◌++◌, ◌∷◌, [], true, OnOk, IfOk, IfErr};
 ghost use Rattle.pt_explain.specs.Explanations.{begins_row as is_row_byte, echo, quoted};
 ghost use Rattle.pt_explain.specs.Explanations.{mark as mark_of};
 
 use pt_engine::ScriptFault;
 use pt_lines::Cut;
 use std::alloc::Allocator;
+
+/// The number of bytes for which the buffer of a row has memory at once. Growing it in steps took a
+/// sixth of an explanation's instructions.
+const ROW: usize = 256;
+
+/// Creates a buffer for a row.
+pub fn row_buffer<A: Allocator + Copy>(alloc: A) -> Result<Vec<u8, A>, ScriptFault>
+    ensures ok { IfOk result (λ row. row.items ≡ []) }
+    ensures why { IfErr result (λ fault. fault ≡ ScriptFault.Memory) }
+{
+    match Vec::with_capacity(alloc, ROW) {
+        Ok(row) => Ok(row),
+        Err(_) => Err(ScriptFault::Memory),
+    }
+}
 
 /// Appends bytes.
 pub fn put<A: Allocator + Copy>(out: &mut Vec<u8, A>, bytes: &[u8]) -> Result<(), ScriptFault>

@@ -8,6 +8,7 @@ ghost use Rattle.pt_explain.specs.Entries.{entry_rows, follows_by, place_of_call
 ghost use Rattle.pt_explain.specs.Entries.{reason_at as reason_there, refused_row};
 ghost use Rattle.pt_explain.specs.Rows.{row};
 
+use crate::appending::row_buffer;
 use crate::rows::put_row;
 use pt_engine::ScriptFault;
 use pt_entries::write_placed_entry;
@@ -92,7 +93,7 @@ fn left_text<A: Allocator + Copy>(
     ensures ok { IfOk result (λ text. text.items ≡ placed_entry place entry.now) }
     ensures why { IfErr result (λ fault. fault ≡ ScriptFault.Memory) }
 {
-    let mut text = Vec::new(alloc);
+    let mut text = row_buffer(alloc)?;
     match write_placed_entry(&mut text, place, entry) {
         Ok(()) => Ok(text),
         Err(_) => Err(ScriptFault::Memory),

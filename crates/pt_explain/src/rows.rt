@@ -3,7 +3,7 @@
 ghost use Rattle.std.specs.Prelude.{◌≡◌, ◌++◌, length, OnOk, IfErr};
 ghost use Rattle.pt_explain.specs.Rows.{gap, margin as margin_meant, room_before, row, spaces};
 
-use crate::appending::{put, put_byte};
+use crate::appending::{put, put_byte, row_buffer};
 use pt_engine::ScriptFault;
 use pt_rules::Reason;
 use std::alloc::Allocator;
@@ -15,7 +15,7 @@ fn put_spaces<A: Allocator + Copy>(out: &mut Vec<u8, A>, n: usize) -> Result<(),
 {
     let blank = b"                                                  ";
     let rest = n.saturating_sub(50);
-    let mut text = Vec::new(*out.allocator());
+    let mut text = row_buffer(*out.allocator())?;
     put(&mut text, &blank[..n.min(50)])?;
     put(&mut text, &blank[..rest.min(50)])?;
     put(out, &text)
@@ -52,7 +52,7 @@ fn put_gap<A: Allocator + Copy>(
     if room >= 2 {
         return put_spaces(out, room);
     }
-    let mut text = Vec::new(*out.allocator());
+    let mut text = row_buffer(*out.allocator())?;
     put(&mut text, b"\n")?;
     put_spaces(&mut text, 98usize.saturating_sub(source))?;
     put(out, &text)
@@ -69,7 +69,7 @@ pub fn put_row<A: Allocator + Copy>(
     ensures why { IfErr result (λ fault. fault ≡ ScriptFault.Memory) }
 {
     let width = text.len();
-    let mut line = Vec::new(*out.allocator());
+    let mut line = row_buffer(*out.allocator())?;
     put(&mut line, text)?;
     put_spaces(&mut line, margin(width))?;
     put(&mut line, reason.words)?;
