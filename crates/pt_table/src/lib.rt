@@ -12,7 +12,6 @@ mod clients;
 mod fault;
 mod link;
 mod names;
-mod numbers;
 mod object_slots;
 mod objects;
 mod rows;

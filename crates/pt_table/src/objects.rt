@@ -14,12 +14,10 @@ ghost use Rattle.pt_table.specs.declared.link.Link.{Link};
 use crate::fault::TableFault;
 use crate::link::Link;
 use crate::names::Names;
-use crate::numbers::Numbers;
-use crate::object_slots::{row_named, row_of, slot_by, slot_by_hint};
-use crate::rows::{make_room, nth_row, put, take_out};
+use crate::object_slots::row_named;
+use crate::rows::{Numbered, Rows};
 use crate::stored_link::StoredLink;
 use pt_types::{MOST_OBJECTS, Name};
-use slab::Slab;
 use std::alloc::{AllocError, Allocator, Global};
 use std::marker::Model;
 
@@ -44,13 +42,21 @@ impl<T> ObjectRow<T> {
     }
 }
 
+impl<T> Numbered for ObjectRow<T> {
+    ghost its_number = { λ row. row.number };
+
+    #[inline(always)]
+    fn number(&self) -> u64 {
+        self.number
+    }
+}
+
 /// The objects, each found by its number and by its name.
 ///
 /// Contracts see the rows in the order in which they were added. The server adds objects by rising
 /// number, so this is the order of their numbers too.
 pub struct Objects<T, A: Allocator + Copy = Global> {
-    rows: Slab<ObjectRow<T>, A>,
-    numbers: Numbers<A>,
+    rows: Rows<ObjectRow<T>, A>,
     names: Names<A>,
 }
 
@@ -58,23 +64,19 @@ impl<T, A: Allocator + Copy> Model for Objects<T, A> {
     ghost use Rattle.std.specs.Prelude.{List};
     ghost use Rattle.pt_table.specs.declared.objects.ObjectRow.{ObjectRow};
     ghost use Rattle.pt_table.specs.ObjectRows.{AreObjects};
-    ghost use Rattle.pt_table.specs.Slots.{rows_listed};
+    ghost use Rattle.pt_table.specs.Slots.{rows_of};
 
     ghost Value = { List (ObjectRow T) };
 
-    ghost view = { λ o. rows_listed o.rows.slots o.numbers.entries };
+    ghost view = { λ o. rows_of (λ row. row.number) o.rows };
 
-    ghost invariant = { λ o. AreObjects o.rows.slots o.numbers.entries o.names.slots.entries };
+    ghost invariant = { λ o. AreObjects o.rows o.names.slots.entries };
 }
 
 // Not derived, so that code that drops the table need not prove anything about its parts.
 impl<T: Drop, A: Allocator + Copy> Drop for Objects<T, A> {
     fn drop(self) {
-        let Objects {
-            rows: _,
-            numbers: _,
-            names: _,
-        } = self;
+        let Objects { rows: _, names: _ } = self;
     }
 }
 
@@ -84,8 +86,7 @@ impl<T, A: Allocator + Copy> Objects<T, A> {
         ensures { result ≡ [] }
     {
         Objects {
-            rows: Slab::new(alloc),
-            numbers: Numbers::new(alloc),
+            rows: Rows::new(alloc),
             names: Names::new(alloc),
         }
     }
@@ -95,7 +96,7 @@ impl<T, A: Allocator + Copy> Objects<T, A> {
         ensures len { result ≡ length self.now }
         ensures within { length self.now ≤ most_objects }
     {
-        self.numbers.len()
+        self.rows.len()
     }
 
     /// Returns the value of the object with this number, if there is one.
@@ -103,7 +104,7 @@ impl<T, A: Allocator + Copy> Objects<T, A> {
     pub fn at(&self, number: u64) -> Option<&T>
         ensures { option_copied result ≡ object_value self.now number }
     {
-        match row_of(&self.rows, &self.numbers, number) {
+        match self.rows.row(number) {
             Some(row) => Some(&row.value),
             None => None,
         }
@@ -113,7 +114,7 @@ impl<T, A: Allocator + Copy> Objects<T, A> {
     pub fn find(&self, name: &Name) -> Option<u64>
         ensures { result ≡ number_of self.now name.now }
     {
-        match row_named(&self.rows, &self.names, name) {
+        match row_named(&self.rows.rows, &self.names, name) {
             Some(row) => Some(row.number),
             None => None,
         }
@@ -125,7 +126,7 @@ impl<T, A: Allocator + Copy> Objects<T, A> {
         ensures number { option_map (λ p. p.0) result ≡ number_of self.now name.now }
         ensures value { IfSome result (λ p. object_value self.now p.0 ≡ Some p.1.now) }
     {
-        match row_named(&self.rows, &self.names, name) {
+        match row_named(&self.rows.rows, &self.names, name) {
             Some(row) => Some((row.number, &row.value)),
             None => None,
         }
@@ -138,8 +139,8 @@ impl<T, A: Allocator + Copy> Objects<T, A> {
         ensures number { option_map (λ p. p.0) result ≡ nth_number self.now index }
         ensures value { option_map (λ p. p.1.now) result ≡ nth_value self.now index }
     {
-        match nth_row(&self.rows, &self.numbers, index) {
-            Some(row) => Some((row.number, &row.value)),
+        match self.rows.nth(index) {
+            Some((_, row)) => Some((row.number, &row.value)),
             None => None,
         }
     }
@@ -148,13 +149,16 @@ impl<T, A: Allocator + Copy> Objects<T, A> {
     pub fn row(&self, index: usize) -> Option<&ObjectRow<T>>
         ensures { option_copied result ≡ slice_get self.now index }
     {
-        nth_row(&self.rows, &self.numbers, index)
+        match self.rows.nth(index) {
+            Some((_, row)) => Some(row),
+            None => None,
+        }
     }
 
     fn has(&self, number: u64) -> bool
         ensures { result ≡ has_object self.now number }
     {
-        self.slot_if(number).is_some()
+        self.rows.slot_of(number).is_some()
     }
 
     fn is_taken(&self, number: u64, name: &Name) -> bool
@@ -165,13 +169,6 @@ impl<T, A: Allocator + Copy> Objects<T, A> {
 
     ghost use Rattle.pt_table.specs.ObjectLends.{lends_at, lends_if_at};
 
-    // Returns the slot of an object's row, found without the slot hint, if there is such an object.
-    fn slot_if(&self, number: u64) -> Option<usize>
-        ensures { is_some result ≡ has_object self.now number }
-    {
-        self.numbers.get(number)
-    }
-
     // Returns a mutable reference to the value of an object. The given slot is tried first.
     #[inline(always)]
     fn value_mut(&mut self, slot: usize, number: u64) -> &mut T
@@ -179,30 +176,8 @@ impl<T, A: Allocator + Copy> Objects<T, A> {
         ensures* lends { sem 𝓛 (lends_at T.row A.row A.Allocator self.entry number result) }
         ensures value { object_value self.old number ≡ Some result.now }
     {
-        let slot = slot_by(&self.rows, &self.numbers, slot, number);
-        self.rows[slot].value_mut()
-    }
-
-    // Returns a mutable reference to the value of an object, found without the slot hint, if there
-    // is such an object.
-    #[cold]
-    #[inline(never)]
-    fn at_mut_by_number(&mut self, number: u64) -> Option<&mut T>
-        ensures* lends { sem 𝓛 (lends_if_at T.row A.row A.Allocator self.entry number result) }
-        ensures value { option_copied_mut result ≡ object_value self.old number }
-    {
-        match self.slot_if(number) {
-            Some(slot) => Some(self.value_mut(slot, number)),
-            None => None,
-        }
-    }
-
-    // Returns the slot of an object's row if its number's hint is right.
-    #[inline(always)]
-    fn hinted(&self, number: u64) -> Option<usize>
-        ensures { OnSome result (IsSome (object_at self.now number)) }
-    {
-        slot_by_hint(&self.rows, &self.numbers, number)
+        let slot = self.rows.slot_by(slot, number);
+        self.rows.rows[slot].value_mut()
     }
 
     /// Returns a mutable reference to the value of the object with this number, if there is one.
@@ -211,18 +186,15 @@ impl<T, A: Allocator + Copy> Objects<T, A> {
         ensures* lends { sem 𝓛 (lends_if_at T.row A.row A.Allocator self.entry number result) }
         ensures value { option_copied_mut result ≡ object_value self.old number }
     {
-        match self.hinted(number) {
+        match self.rows.slot_of(number) {
             Some(slot) => Some(self.value_mut(slot, number)),
-            None => self.at_mut_by_number(number),
+            None => None,
         }
     }
 
     // Returns the slot of an object's row, or any slot if there is no such object.
     pub(crate) fn slot_near(&self, number: u64) -> usize {
-        match self.hinted(number) {
-            Some(slot) => slot,
-            None => self.slot_if(number).unwrap_or(0),
-        }
+        self.rows.slot_of(number).unwrap_or(0)
     }
 
     // Returns the link of an object's row. The given slot is tried first.
@@ -230,15 +202,15 @@ impl<T, A: Allocator + Copy> Objects<T, A> {
         requires { IsSome (object_at self.now number) }
         ensures { link_of self.now number ≡ Some result }
     {
-        let slot = slot_by(&self.rows, &self.numbers, slot, number);
-        self.rows[slot].link.get()
+        let slot = self.rows.slot_by(slot, number);
+        self.rows.rows[slot].link.get()
     }
 
     // Returns the link of an object's row, if there is such an object.
     pub(crate) fn link_of(&self, number: u64) -> Option<Link>
         ensures { result ≡ link_of self.now number }
     {
-        match row_of(&self.rows, &self.numbers, number) {
+        match self.rows.row(number) {
             Some(row) => Some(row.link.get()),
             None => None,
         }
@@ -250,8 +222,8 @@ impl<T, A: Allocator + Copy> Objects<T, A> {
         requires { IsSome (object_at self.old number) }
         ensures { self.new ≡ with_link self.old number link }
     {
-        let slot = slot_by(&self.rows, &self.numbers, slot, number);
-        self.rows[slot].link = StoredLink::of(link);
+        let slot = self.rows.slot_by(slot, number);
+        self.rows.rows[slot].link = StoredLink::of(link);
     }
 
     // Sets the next number and slot in the link of an object's row to those of another link. The
@@ -261,8 +233,10 @@ impl<T, A: Allocator + Copy> Objects<T, A> {
         ensures { (its : Link) → link_of self.old number ≡ Some its
             → self.new ≡ with_link self.old number (leading_on its link) }
     {
-        let slot = slot_by(&self.rows, &self.numbers, slot, number);
-        self.rows[slot].link.set_next(link);
+        let mut its = self.link_near(slot, number);
+        its.next = link.next;
+        its.next_slot = link.next_slot;
+        self.set_link(slot, number, its);
     }
 
     // Sets the previous number and slot in the link of an object's row to those of another link.
@@ -272,8 +246,10 @@ impl<T, A: Allocator + Copy> Objects<T, A> {
         ensures { (its : Link) → link_of self.old number ≡ Some its
             → self.new ≡ with_link self.old number (leading_back its link) }
     {
-        let slot = slot_by(&self.rows, &self.numbers, slot, number);
-        self.rows[slot].link.set_before(link);
+        let mut its = self.link_near(slot, number);
+        its.before = link.before;
+        its.before_slot = link.before_slot;
+        self.set_link(slot, number, its);
     }
 
     /// Removes the object with this number, and returns its value. Its name is free from then on.
@@ -282,7 +258,7 @@ impl<T, A: Allocator + Copy> Objects<T, A> {
         ensures value { result ≡ object_value self.old number }
         ensures rows { self.new ≡ without_object self.old number }
     {
-        let row = take_out(&mut self.rows, &mut self.numbers, number)?;
+        let row = self.rows.take(number)?;
         self.names.forget(&row.name);
         let ObjectRow {
             number: _,
@@ -298,7 +274,7 @@ impl<T, A: Allocator + Copy> Objects<T, A> {
     pub fn pack(&mut self)
         ensures { self.new ≡ self.old }
     {
-        self.numbers.pack();
+        self.rows.pack();
     }
 
     // Adds an object whose number and name are new, or returns its value if a growth is refused.
@@ -310,19 +286,18 @@ impl<T, A: Allocator + Copy> Objects<T, A> {
         ensures err { OnErr result (self.new ≡ self.old) }
         ensures handed { IfErr result (λ handed. handed ≡ value) }
     {
-        if make_room(&mut self.rows, &mut self.numbers).is_err() {
+        if self.rows.reserve_one().is_err() {
             return Err(value);
         }
         if self.names.reserve_one().is_err() {
             return Err(value);
         }
-        let row = ObjectRow {
+        let slot = self.rows.put(ObjectRow {
             number,
             name: name.copied(),
             value,
             link: StoredLink::of(Link::out()),
-        };
-        let slot = put(&mut self.rows, &mut self.numbers, number, row);
+        });
         self.names.insert(name, slot);
         Ok(())
     }

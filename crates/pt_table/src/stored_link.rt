@@ -65,24 +65,4 @@ impl StoredLink {
             before: number_if(self.has_before, self.before),
         }
     }
-
-    // Sets the next number and slot to those of another link, and leaves the rest unchanged.
-    pub(crate) fn set_next(&mut self, link: Link)
-        ensures { self.new
-            ≡ record self.old { next = link.next; next_slot = link.next_slot } }
-    {
-        self.next = link.next.unwrap_or(0);
-        self.has_next = link.next.is_some();
-        self.next_slot = link.next_slot;
-    }
-
-    // Sets the previous number and slot to those of another link, and leaves the rest unchanged.
-    pub(crate) fn set_before(&mut self, link: Link)
-        ensures { self.new
-            ≡ record self.old { before = link.before; before_slot = link.before_slot } }
-    {
-        self.before = link.before.unwrap_or(0);
-        self.has_before = link.before.is_some();
-        self.before_slot = link.before_slot;
-    }
 }
