@@ -1,5 +1,5 @@
 -- Adding a row: a new row in a vacant slot is the last one that is listed.
-use Rattle.std.proofs.Common.{◌≡◌, ◌≢◌, ◌+◌, ◌∙◌, ℕ, cond, nat_eq, true, false, Bool, List, [], ◌∷◌}
+use Rattle.std.proofs.Common.{◌≡◌, ◌≢◌, ◌+◌, ◌∙◌, ℕ, cond, nat_eq, false, List, [], ◌∷◌}
 use Rattle.std.proofs.Common.{◌++◌, length, ap, sym, refl, arith, Option, None, Some, inl, inr}
 use Rattle.std.proofs.Common.{length-append, is_some, count_by, ◌<◌, ◌≤◌}
 use Rattle.std.specs.List.{cons_option}
@@ -10,7 +10,7 @@ use Rattle.std.proofs.lemmas.Bool.Decides.{eqb_tells}
 use Rattle.pt_table.specs.Slots.{row_in_slot, number_in, with_number, its_row, rows_listed}
 use Rattle.pt_table.specs.Slots.{Distinct, IsNumbered}
 use Rattle.pt_table.specs.Rows.{row_at}
-use Rattle.pt_table.proofs.Lookups.{some_inj, none_some, lookup_none-parts, lookup-append_some}
+use Rattle.pt_table.proofs.Lookups.{some_inj, lookup_none-parts, lookup-append_some}
 use Rattle.pt_table.proofs.Lookups.{lookup-append_none, lookup-remove_other, lookup-removed}
 use Rattle.pt_table.proofs.Lookups.{Distinct-append, Distinct-remove}
 use Rattle.pt_table.proofs.Listed.{Tells, its-there, its-none, number_free}

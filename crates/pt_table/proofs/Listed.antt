@@ -1,6 +1,6 @@
 -- The rows that are listed: a look-up by number goes through the listed slots.
-use Rattle.std.proofs.Common.{◌≡◌, ◌<◌, ◌+◌, ◌⊎◌, ◌≢◌, ◌∙◌, ℕ, zero, suc, cond, nat_eq, true, false}
-use Rattle.std.proofs.Common.{List, [], ◌∷◌, length, refl, ap, sym, subst, arith, Option, None}
+use Rattle.std.proofs.Common.{◌≡◌, ◌<◌, ◌⊎◌, ◌≢◌, ◌∙◌, ℕ, zero, suc, cond, nat_eq, true, false}
+use Rattle.std.proofs.Common.{List, [], ◌∷◌, length, refl, ap, sym, arith, Option, None}
 use Rattle.std.proofs.Common.{Bool, Some, is_some, inl, inr}
 use Rattle.std.specs.List.{cons_option}
 use Rattle.std.specs.Option.{option_map, option_and_then}
@@ -8,7 +8,7 @@ use Rattle.std.specs.Map.{lookup}
 use Rattle.std.proofs.lemmas.Bool.{eq-eqb}
 use Rattle.std.proofs.lemmas.Bool.Decides.{eqb_tells}
 use Rattle.pt_table.specs.Rows.{row_at}
-use Rattle.pt_table.specs.Slots.{row_in_slot, row_in_any, number_in, with_number, its_row}
+use Rattle.pt_table.specs.Slots.{row_in_slot, number_in, with_number, its_row}
 use Rattle.pt_table.specs.Slots.{rows_listed, Distinct, IsNumbered}
 use Rattle.pt_table.proofs.Lookups.{some_inj, none_some}
 

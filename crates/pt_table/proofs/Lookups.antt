@@ -1,6 +1,6 @@
 -- Look-ups in lists of entries, and what an added or a removed entry changes in them.
 use Rattle.std.proofs.Common.{◌≡◌, ◌∙◌, ℕ, Bool, true, false, cond, nat_eq, List}
-use Rattle.std.proofs.Common.{[], ◌∷◌, ◌++◌, length, refl, ap, sym, Option, None, Some}
+use Rattle.std.proofs.Common.{[], ◌∷◌, ◌++◌, refl, ap, sym, Option, None, Some}
 use Rattle.std.proofs.Common.{true≢false, is_some, inl, inr}
 use Rattle.std.specs.Map.{lookup, remove_entry}
 use Rattle.indexmap.specs.IndexMap.{insert_entry}

@@ -12,7 +12,7 @@ use Rattle.pt_types.specs.Names.{same_name}
 use Rattle.pt_table.specs.declared.objects.ObjectRow.{ObjectRow}
 use Rattle.pt_table.specs.ObjectRows.{object_at, object_named, has_object, is_taken}
 use Rattle.pt_table.specs.Slots.{row_in_slot, its_row, rows_listed, IsNumbered, IsTaken}
-use Rattle.pt_table.specs.NameSlots.{name_in, IsNamed, IsRowIn, IsRowNamed, IsSet}
+use Rattle.pt_table.specs.NameSlots.{name_in, IsNamed, IsSet}
 use Rattle.pt_table.proofs.Lookups.{some_inj, none_some, none_of}
 use Rattle.pt_table.proofs.Listed.{Tells, its-is, its-there, row_there}
 use Rattle.pt_table.proofs.Written.{same_in}

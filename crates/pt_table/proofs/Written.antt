@@ -11,7 +11,6 @@ use Rattle.std.proofs.lemmas.Bool.{eq-eqb}
 use Rattle.std.proofs.lemmas.Bool.Decides.{eqb_tells}
 use Rattle.pt_table.specs.Rows.{changed_at, row_at}
 use Rattle.pt_table.specs.Slots.{row_in_slot, with_number, its_row, rows_listed, IsNumbered}
-use Rattle.pt_table.proofs.Lookups.{some_inj}
 use Rattle.pt_table.proofs.Listed.{Tells, slot_within, its-is, same_slot, number_found}
 
 -- a slot with a row still counts after its row is changed

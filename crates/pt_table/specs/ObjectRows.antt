@@ -16,14 +16,6 @@ abbrev pub out_of_chains : Link
 out_of_chains =
     record { linked = false; next = None; next_slot = 0; before = None; before_slot = 0 }
 
--- a link whose next number and slot are replaced by those of another
-abbrev pub leading_on : Link → (other : Link) → Link
-leading_on its link = record its { next = link.next; next_slot = link.next_slot }
-
--- a link whose previous number and slot are replaced by those of another
-abbrev pub leading_back : Link → (other : Link) → Link
-leading_back its link = record its { before = link.before; before_slot = link.before_slot }
-
 module _ {T : Type 0} where
   -- the row of the object with this number
   abbrev pub object_at : List (ObjectRow T) → ℕ → Option (ObjectRow T)

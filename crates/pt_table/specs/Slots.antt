@@ -7,6 +7,7 @@ use Rattle.std.specs.Map.{lookup, remove_entry}
 use Rattle.slab.specs.Slab.{HasRoomFor}
 use Rattle.indexmap.specs.IndexMap.{spare}
 use Rattle.pt_table.specs.declared.rows.Rows.{Rows}
+use Rattle.pt_table.specs.Rows.{row_at}
 
 -- the entries without the one with this number
 abbrev pub without_number : List (ℕ × ℕ) → ℕ → List (ℕ × ℕ)
@@ -70,6 +71,11 @@ module _ {R : Type 0} (number : R → ℕ) where
     -- the table's numbers lead to its rows
     abbrev pub IsTable : Rows R A → Type 0
     IsTable table = IsNumbered table.rows.slots table.slots.entries
+
+    -- the slot is that of the row with this number, if there is one
+    pub record IsSlotOf (table : Rows R A) (n : ℕ) (slot : Option ℕ) : Type 0 where
+      pub row : row_in_any table.rows.slots slot ≡ row_at number (rows_of table) n
+      pub found : is_some slot ≡ is_some (row_at number (rows_of table) n)
 
 -- one more row fits, and its number too, even if that is listed already
 abbrev pub HasRoom : {R A : Type 0} → Rows R A → Type 0

@@ -5,11 +5,9 @@ ghost use Rattle.std.specs.Option.{option_map, option_copied, option_copied_mut}
 ghost use Rattle.std.specs.Borrow.{sem};
 ghost use Rattle.pt_types.specs.Limits.{most_objects};
 ghost use Rattle.pt_table.specs.Faults.{IsFault};
-ghost use Rattle.pt_table.specs.ObjectRows.{object_at, object_value, link_of, has_object};
+ghost use Rattle.pt_table.specs.ObjectRows.{object_at, object_value, link_of};
 ghost use Rattle.pt_table.specs.ObjectRows.{number_of, is_taken, nth_number, nth_value, and_object};
-ghost use Rattle.pt_table.specs.ObjectRows.{with_link, without_object, IsFullFor, leading_on};
-ghost use Rattle.pt_table.specs.ObjectRows.{leading_back};
-ghost use Rattle.pt_table.specs.declared.link.Link.{Link};
+ghost use Rattle.pt_table.specs.ObjectRows.{with_link, without_object, IsFullFor};
 
 use crate::fault::TableFault;
 use crate::link::Link;
@@ -155,16 +153,10 @@ impl<T, A: Allocator + Copy> Objects<T, A> {
         }
     }
 
-    fn has(&self, number: u64) -> bool
-        ensures { result ≡ has_object self.now number }
-    {
-        self.rows.slot_of(number).is_some()
-    }
-
     fn is_taken(&self, number: u64, name: &Name) -> bool
         ensures { result ≡ is_taken self.now number name.now }
     {
-        self.has(number) || self.find(name).is_some()
+        self.rows.slot_of(number).is_some() || self.find(name).is_some()
     }
 
     ghost use Rattle.pt_table.specs.ObjectLends.{lends_at, lends_if_at};
@@ -224,32 +216,6 @@ impl<T, A: Allocator + Copy> Objects<T, A> {
     {
         let slot = self.rows.slot_by(slot, number);
         self.rows.rows[slot].link = StoredLink::of(link);
-    }
-
-    // Sets the next number and slot in the link of an object's row to those of another link. The
-    // given slot is tried first.
-    pub(crate) fn set_next_near(&mut self, slot: usize, number: u64, link: Link)
-        requires { IsSome (object_at self.old number) }
-        ensures { (its : Link) → link_of self.old number ≡ Some its
-            → self.new ≡ with_link self.old number (leading_on its link) }
-    {
-        let mut its = self.link_near(slot, number);
-        its.next = link.next;
-        its.next_slot = link.next_slot;
-        self.set_link(slot, number, its);
-    }
-
-    // Sets the previous number and slot in the link of an object's row to those of another link.
-    // The given slot is tried first.
-    pub(crate) fn set_before_near(&mut self, slot: usize, number: u64, link: Link)
-        requires { IsSome (object_at self.old number) }
-        ensures { (its : Link) → link_of self.old number ≡ Some its
-            → self.new ≡ with_link self.old number (leading_back its link) }
-    {
-        let mut its = self.link_near(slot, number);
-        its.before = link.before;
-        its.before_slot = link.before_slot;
-        self.set_link(slot, number, its);
     }
 
     /// Removes the object with this number, and returns its value. Its name is free from then on.

@@ -5,8 +5,8 @@ ghost use Rattle.std.specs.Prelude.{filter, is_some, length, slice_get};
 ghost use Rattle.std.specs.Option.{option_and_then, option_copied, option_map};
 ghost use Rattle.indexmap.specs.IndexMap.{spare};
 ghost use Rattle.pt_table.specs.Rows.{row_at, without};
-ghost use Rattle.pt_table.specs.Slots.{its_row, row_in_any, row_in_slot, rows_of};
-ghost use Rattle.pt_table.specs.Slots.{without_number, HasRoom, IsTable, IsTaken, SameBut};
+ghost use Rattle.pt_table.specs.Slots.{its_row, row_in_slot, rows_of};
+ghost use Rattle.pt_table.specs.Slots.{without_number, HasRoom, IsSlotOf, IsTable, IsTaken, SameBut};
 
 use crate::slot_hints::SlotHints;
 use indexmap::IndexMap;
@@ -121,10 +121,7 @@ impl<R: Numbered, A: Allocator + Copy> Rows<R, A> {
     #[inline(never)]
     fn slot_by_map(&self, number: u64) -> Option<usize>
         requires { IsTable R.its_number self.now }
-        ensures row { row_in_any self.now.rows.slots result
-            ≡ row_at R.its_number (rows_of R.its_number self.now) number }
-        ensures found { is_some result
-            ≡ is_some (row_at R.its_number (rows_of R.its_number self.now) number) }
+        ensures { IsSlotOf R.its_number self.now number result }
     {
         let slot = *self.slots.get(&number)?;
         match row_if_its(&self.rows, number, slot) {
@@ -137,10 +134,7 @@ impl<R: Numbered, A: Allocator + Copy> Rows<R, A> {
     #[inline(always)]
     pub(crate) fn slot_near(&self, slot: usize, number: u64) -> Option<usize>
         requires { IsTable R.its_number self.now }
-        ensures row { row_in_any self.now.rows.slots result
-            ≡ row_at R.its_number (rows_of R.its_number self.now) number }
-        ensures found { is_some result
-            ≡ is_some (row_at R.its_number (rows_of R.its_number self.now) number) }
+        ensures { IsSlotOf R.its_number self.now number result }
     {
         match row_if_its(&self.rows, number, slot) {
             Some(_) => Some(slot),
@@ -153,10 +147,7 @@ impl<R: Numbered, A: Allocator + Copy> Rows<R, A> {
     #[inline(always)]
     pub(crate) fn slot_of(&self, number: u64) -> Option<usize>
         requires { IsTable R.its_number self.now }
-        ensures row { row_in_any self.now.rows.slots result
-            ≡ row_at R.its_number (rows_of R.its_number self.now) number }
-        ensures found { is_some result
-            ≡ is_some (row_at R.its_number (rows_of R.its_number self.now) number) }
+        ensures { IsSlotOf R.its_number self.now number result }
     {
         self.slot_near(self.hints.get(number), number)
     }
@@ -284,19 +275,6 @@ impl<R: Numbered, A: Allocator + Copy> Rows<R, A> {
         }
     }
 
-    // Removes the row of a number from its slot, and returns it, if there is one.
-    fn take_out(&mut self, number: u64) -> Option<R>
-        requires { IsTable R.its_number self.old }
-        ensures numbered { IsTable R.its_number self.new }
-        ensures value { result ≡ row_at R.its_number (rows_of R.its_number self.old) number }
-        ensures rows { rows_of R.its_number self.new
-            ≡ without R.its_number (rows_of R.its_number self.old) number }
-        ensures slots { IsTaken self.old.rows.slots self.new.rows.slots result }
-    {
-        let slot = self.slot_of(number)?;
-        self.rows.try_remove(slot)
-    }
-
     /// Removes the row of a number, and returns it, if there is one.
     #[inline(always)]
     pub(crate) fn take(&mut self, number: u64) -> Option<R>
@@ -307,7 +285,8 @@ impl<R: Numbered, A: Allocator + Copy> Rows<R, A> {
             ≡ without R.its_number (rows_of R.its_number self.old) number }
         ensures slots { IsTaken self.old.rows.slots self.new.rows.slots result }
     {
-        let row = self.take_out(number);
+        let slot = self.slot_of(number)?;
+        let row = self.rows.try_remove(slot);
         self.pack_if_sparse();
         row
     }

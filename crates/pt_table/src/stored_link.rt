@@ -1,4 +1,4 @@
-ghost use Rattle.std.specs.Prelude.{◌≡◌, Some, None, if◌then◌else◌};
+ghost use Rattle.std.specs.Prelude.{◌≡◌};
 
 use crate::link::Link;
 use std::marker::Model;
@@ -30,13 +30,6 @@ impl Model for StoredLink {
     } };
 }
 
-// Returns the number if `there` is true.
-fn number_if(there: bool, number: u64) -> Option<u64>
-    ensures { result ≡ if there then Some number else None }
-{
-    if there { Some(number) } else { None }
-}
-
 impl StoredLink {
     // Converts a link to the form in which it is stored.
     pub(crate) fn of(link: Link) -> Self
@@ -61,8 +54,8 @@ impl StoredLink {
             linked: self.linked,
             next_slot: self.next_slot,
             before_slot: self.before_slot,
-            next: number_if(self.has_next, self.next),
-            before: number_if(self.has_before, self.before),
+            next: self.has_next.then_some(self.next),
+            before: self.has_before.then_some(self.before),
         }
     }
 }

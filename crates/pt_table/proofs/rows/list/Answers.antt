@@ -1,4 +1,4 @@
-use Rattle.std.proofs.Common.{◌≡◌, ◌∙◌, ◌++◌, ◌∷◌, [], ap, sym, nat_eq, List, ℕ, None}
+use Rattle.std.proofs.Common.{◌≡◌, ◌∙◌, ◌++◌, ◌∷◌, [], ap, sym, nat_eq, None}
 use Rattle.std.specs.Map.{lookup, remove_entry}
 use Rattle.indexmap.proofs.CallerLemmas.{insert_entry-new}
 use Rattle.pt_table.proofs.Lookups.{remove-absent, remove-inserted, none_of}

@@ -1,6 +1,4 @@
-use Rattle.std.proofs.Common.{◌∙◌, ap, is_some, refl, sym}
-use Rattle.std.specs.Option.{option_and_then, option_copied}
-use Rattle.pt_table.specs.Slots.{its_row}
+use Rattle.std.proofs.Common.{refl, sym}
 use Rattle.pt_table.proofs.Listed.{no_slot, right_slot}
 use Rattle.pt_table.proofs.rows.Rows.slot_by_map.Goals as goal
 
