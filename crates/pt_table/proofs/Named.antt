@@ -177,11 +177,16 @@ module _ {T : Type 0} {slots : List (Option (ObjectRow T))} {names : List (List 
   filed_again s t e =
       elim (eqb_tells s key) [
         | inl is ↦
-            now t ∙ ap (λ b. cond b (Some key) (lookup (same_name t) names)) (same-true row.name t (its s t is.1 e)) ∙ ap Some (sym is.1)
+            now t
+            ∙ ap (λ b. cond b (Some key) (lookup (same_name t) names))
+            (same-true row.name t (its s t is.1 e))
+            ∙ ap Some (sym is.1)
         | inr apart ↦
             let had = was s t apart.1 e in
             let other : row.name ≢ t = λ is. free s (had ∙ ap Some (sym is)) in
-            now t ∙ ap (λ b. cond b (Some key) (lookup (same_name t) names)) (differ row.name t other) ∙ k.filed s t had
+            now t
+            ∙ ap (λ b. cond b (Some key) (lookup (same_name t) names)) (differ row.name t other)
+            ∙ k.filed s t had
       ]
 
   pub IsNamed-added : IsNamed new names'
@@ -216,7 +221,8 @@ module _ {T : Type 0} {slots : List (Option (ObjectRow T))} {numbers : List (ℕ
       sym (ap (option_map (λ r. r.name)) (kept row row.number slot h here refl s apart)) ∙ e in
       let own = k.filed slot row.name (ap (option_map (λ r. r.name)) here) in
       let other : row.name ≢ t = λ is.
-      apart (some_inj (sym (k.filed s t had) ∙ ap (λ u. lookup (same_name u) names) (sym is) ∙ own)) in
+      apart (some_inj (sym (k.filed s t had) ∙ ap (λ u. lookup (same_name u) names) (sym is)
+      ∙ own)) in
       now t ∙ ap (λ b. cond b None (lookup (same_name t) names)) (differ row.name t other)
       ∙ k.filed s t had
 

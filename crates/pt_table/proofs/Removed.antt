@@ -1,6 +1,7 @@
 -- Taking a row out: its slot is empty, and its number leads to no row.
 use Rattle.std.proofs.Common.{◌≡◌, ◌≢◌, ◌+◌, ◌∙◌, ℕ, Bool, true, false, cond, nat_eq, List, [], ◌∷◌}
-use Rattle.std.proofs.Common.{refl, ap, sym, subst, arith, length, Option, None, Some, inl, inr, not}
+use Rattle.std.proofs.Common.{refl, ap, sym, subst, arith, length, Option, None, Some, inl, inr}
+use Rattle.std.proofs.Common.{not}
 use Rattle.std.proofs.Common.{get_or-set_same, get_or-set_other, count_by, is_some, filter}
 use Rattle.std.proofs.Math.ListN.{set}
 use Rattle.std.specs.List.{cons_option}
@@ -78,7 +79,8 @@ module _ {R : Type 0} {number : R → ℕ} {slots : List (Option R)} {numbers : 
     where
       by : Tells n (number r) → if_stays r ≡ Some r
       by (inl s) =
-          absurd (apart (same_slot h n k slot (ap (option_map number) is ∙ ap Some (sym s.1)) there))
+          absurd (apart (same_slot h n k slot (ap (option_map number) is ∙ ap Some (sym s.1))
+          there))
       by (inr a) = ap (λ b. cond (not b) (Some r) None) a.0
 
   at_entry : (e : ℕ × ℕ)

@@ -1,5 +1,6 @@
 -- Changing a row in its slot, if the row keeps its number.
-use Rattle.std.proofs.Common.{◌≡◌, ◌≢◌, ◌∙◌, ℕ, zero, suc, Bool, true, false, cond, nat_eq, List, [], ◌∷◌, refl}
+use Rattle.std.proofs.Common.{◌≡◌, ◌≢◌, ◌∙◌, ℕ, zero, suc, Bool, true, false, cond, nat_eq, List}
+use Rattle.std.proofs.Common.{[], ◌∷◌, refl}
 use Rattle.std.proofs.Common.{ap, sym, arith, length, map, Option, None, Some, is_some, count_by}
 use Rattle.std.proofs.Common.{inl, inr, get_or-set_same, get_or-set_other}
 use Rattle.std.proofs.Math.ListN.{set}
@@ -77,7 +78,8 @@ module _ {R : Type 0} {number : R → ℕ} {slots : List (Option R)} {numbers : 
       → its_row number written e.0 e.1 ≡ option_map after (its_row number slots e.0 e.1)
   at_entry e = by (eqb_tells e.1 slot)
     where
-      there : (b : Bool) → cond b (Some (change row)) None ≡ option_map after (cond b (Some row) None)
+      there : (b : Bool) → cond b (Some (change row)) None
+          ≡ option_map after (cond b (Some row) None)
       there true =
           sym (ap (λ b. Some (cond b (change row) row)) (eq-eqb (number row) (number row) refl))
       there false = refl

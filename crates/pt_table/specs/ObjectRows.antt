@@ -1,5 +1,6 @@
 -- Objects: the rows of the table of objects, as a map from their numbers and from their names.
-use Rattle.std.specs.Prelude.{◌≡◌, ◌≤◌, ℕ, ◌||◌, Bool, false, List, [], ◌∷◌, ◌++◌, Option, None, find}
+use Rattle.std.specs.Prelude.{◌≡◌, ◌≤◌, ℕ, ◌||◌, Bool, false, List, [], ◌∷◌, ◌++◌, Option, None}
+use Rattle.std.specs.Prelude.{find}
 use Rattle.std.specs.Prelude.{is_some, length, slice_get}
 use Rattle.std.specs.Option.{option_map}
 use Rattle.pt_types.specs.Limits.{most_objects}

@@ -112,10 +112,8 @@ impl<T, A: Allocator + Copy> Objects<T, A> {
     pub fn find(&self, name: &Name) -> Option<u64>
         ensures { result ≡ number_of self.now name.now }
     {
-        match row_named(&self.rows.rows, &self.names, name) {
-            Some(row) => Some(row.number),
-            None => None,
-        }
+        let (number, _) = self.named(name)?;
+        Some(number)
     }
 
     /// Returns the number and the value of the object with this name, if there is one.

@@ -5,8 +5,8 @@ ghost use Rattle.std.specs.Prelude.{filter, is_some, length, slice_get};
 ghost use Rattle.std.specs.Option.{option_and_then, option_copied, option_map};
 ghost use Rattle.indexmap.specs.IndexMap.{spare};
 ghost use Rattle.pt_table.specs.Rows.{row_at, without};
-ghost use Rattle.pt_table.specs.Slots.{its_row, row_in_slot, rows_of};
-ghost use Rattle.pt_table.specs.Slots.{without_number, HasRoom, IsSlotOf, IsTable, IsTaken, SameBut};
+ghost use Rattle.pt_table.specs.Slots.{its_row, row_in_slot, rows_of, without_number};
+ghost use Rattle.pt_table.specs.Slots.{HasRoom, IsSlotOf, IsTable, IsTaken, SameBut};
 
 use crate::slot_hints::SlotHints;
 use indexmap::IndexMap;
@@ -23,6 +23,9 @@ pub(crate) trait Numbered {
         ensures { result ≡ its_number self.now };
 }
 
+/// The most numbers whose rows are gone that stay in the map of a table with few rows.
+const MOST_GONE: usize = 64;
+
 /// A map from numbers to slots.
 type Slots<A> = IndexMap<u64, usize, BuildHasherDefault<FoldHasher>, A>;
 
@@ -33,7 +36,7 @@ type Slots<A> = IndexMap<u64, usize, BuildHasherDefault<FoldHasher>, A>;
 ///
 /// The map has the numbers in their order. A number stays in it after its row is removed, since
 /// moving all later numbers after each removal would cost more. Such numbers are removed once they
-/// are more than the others.
+/// are many and more than the others.
 #[derive(Drop)]
 pub(crate) struct Rows<R, A: Allocator + Copy> {
     pub(crate) rows: Slab<R, A>,
@@ -89,7 +92,8 @@ fn pack<R: Numbered, A: Allocator + Copy>(rows: &Slab<R, A>, slots: &mut Slots<A
 {
     slots.retain(
         |number: &u64, slot: &mut usize| -> bool
-            ensures { (result ≡ is_some (its_row R.its_number rows.entry.now.slots number.now slot.old))
+            ensures { (result
+                ≡ is_some (its_row R.its_number rows.entry.now.slots number.now slot.old))
                 × (slot.new ≡ slot.old) }
         { row_if_its(rows, *number, *slot).is_some() },
     );
@@ -263,14 +267,14 @@ impl<R: Numbered, A: Allocator + Copy> Rows<R, A> {
         }
     }
 
-    // Does what `pack` does if the numbers whose rows are gone are more than the others.
+    // Does what `pack` does if the numbers whose rows are gone are many and more than the others.
     fn pack_if_sparse(&mut self)
         requires { IsTable R.its_number self.old }
         ensures numbered { IsTable R.its_number self.new }
         ensures rows { rows_of R.its_number self.new ≡ rows_of R.its_number self.old }
         ensures slots { self.new.rows.slots ≡ self.old.rows.slots }
     {
-        if self.slots.len() / 2 > self.rows.len() {
+        if self.slots.len() / 2 > self.rows.len().max(MOST_GONE) {
             self.pack();
         }
     }

@@ -26,7 +26,8 @@ returns-in-Some-clause-next g c = λ n.
     let at = c.in-Some.number in
     next-once rows c.set_link.new.self at _
     (linked-there rows at (c.requires at c.in-Some.is)) c.set_link.ensures n
-    ∙ written-same (next_number rows) at _ (next-found rows at c.link_near-its.result c.link_near-its.ensures) n
+    ∙ written-same (next_number rows) at _
+    (next-found rows at c.link_near-its.result c.link_near-its.ensures) n
 
 pub returns-in-Some-clause-linked : goal.returns-in-Some-clause-linked
 returns-in-Some-clause-linked g c = λ n.
@@ -34,7 +35,8 @@ returns-in-Some-clause-linked g c = λ n.
     let at = c.in-Some.number in
     linked-once rows c.set_link.new.self at _
     (linked-there rows at (c.requires at c.in-Some.is)) c.set_link.ensures n
-    ∙ written-same (is_linked rows) at _ (linked-found rows at c.link_near-its.result c.link_near-its.ensures) n
+    ∙ written-same (is_linked rows) at _
+    (linked-found rows at c.link_near-its.result c.link_near-its.ensures) n
 
 pub returns-in-Some-clause-rows : goal.returns-in-Some-clause-rows
 returns-in-Some-clause-rows g c =
