@@ -10,12 +10,13 @@
 mod checking;
 
 use checking::run_check;
-use pt_command::{ClockWord, Service, Task, read_task};
+use pt_command::{ClockWord, Task, read_task};
 use pt_core::Core;
 use pt_explain::explain;
+use pt_hub::Closed;
 use pt_io::Counted;
 use pt_script::{ENTRIES_BETWEEN_SEALS, ScriptFault, answer};
-use pt_serve::serve;
+use pt_serve::{ServeFault, serve};
 use pt_session::ClockMode;
 use std::io;
 use std::process::ExitCode;
@@ -55,23 +56,9 @@ fn mode_of(clock: ClockWord) -> ClockMode {
     }
 }
 
-// Serves, reports a fault on standard error, and returns the exit status.
-fn run_server(rt: &HostRuntime, service: &Service) -> ExitCode {
-    let Ok(core) = Core::with_limit(rt.alloc(), ENTRIES_BETWEEN_SEALS) else {
-        return want_memory(rt);
-    };
-    let mut out = Counted::new(io::writer(rt));
-    let served = serve(
-        rt,
-        rt.alloc(),
-        core,
-        service.path.as_str(),
-        mode_of(service.clock),
-        service.sessions,
-        &mut out,
-        Counted::new(rt.stderr()),
-    );
-    match served.end {
+// Returns the exit status of a server that ended so.
+fn status_of(end: Result<Closed, ServeFault>) -> ExitCode {
+    match end {
         Ok(_) => ExitCode::SUCCESS,
         Err(fault) => ExitCode::from(pt_serve::status_of(fault)),
     }
@@ -82,7 +69,25 @@ fn main(rt: HostRuntime) -> ExitCode {
         Task::Script => run_script(&rt),
         Task::Explain => run_explain(&rt),
         Task::Check(traces) => run_check(&rt, &traces),
-        Task::Serve(service) => run_server(&rt, &service),
+        Task::Serve(service) => {
+            let Ok(core) = Core::with_limit(rt.alloc(), ENTRIES_BETWEEN_SEALS) else {
+                return want_memory(&rt);
+            };
+            let mode = mode_of(service.clock);
+            let mut out = Counted::new(io::writer(&rt));
+            let path = service.path.as_str();
+            let served = serve(
+                &rt,
+                rt.alloc(),
+                core,
+                path,
+                mode,
+                service.sessions,
+                &mut out,
+                Counted::new(rt.stderr()),
+            );
+            status_of(served.end)
+        }
         Task::End(status) => status,
     }
 }
