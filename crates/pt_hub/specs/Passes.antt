@@ -1,5 +1,7 @@
 -- Passes: what is seen of a client, of what it leaves, and of a clock.
-use Rattle.std.specs.Prelude.{ℕ, ◌≡◌, ◌+◌, ◌<◌, List, [], ◌∷◌, length, sum_by, Option, Some, IfSome}
+use Rattle.std.specs.Prelude.{ℕ, ◌≡◌, ◌+◌, ◌<◌, Bool, true, List, [], ◌∷◌, ◌++◌, length, map}
+use Rattle.std.specs.Prelude.{sum_by, Option, Some, IfSome, if◌then◌else◌}
+use Rattle.std.specs.declared.snapshot.Snapshot.{Snapshot}
 use Rattle.pt_model.specs.declared.entry.Event.{Event}
 use Rattle.pt_model.specs.declared.entry.Event.TheVariants as event
 use Rattle.pt_model.specs.Searches.{Each}
@@ -8,13 +10,19 @@ use Rattle.pt_cells.specs.Cells.{SeenView}
 use Rattle.pt_hub.specs.declared.pass.Receipt.{Receipt}
 use Rattle.pt_hub.specs.declared.pass.Tick.{Tick}
 
--- a client's number, its priority, what it saw of its Join, and its calls with the answers that it
--- took
+-- the receipts of a log
+abbrev pub receipts_of : List (Snapshot Receipt × Unit {0}) → List Receipt
+receipts_of xs = map (λ x. x.0.value) xs
+
+-- a client's number, its priority, what it saw of its Join, its calls with the answers that it
+-- took, of which the first were let go, and whether all of them are kept
 pub record PassView : Type 0 where
   pub client : ℕ
   pub priority : ℕ
   pub seen : Option SeenView
+  pub gone : List Receipt
   pub receipts : List Receipt
+  pub keeps : Bool
 
 -- what a client leaves: its pass, the place of its Death, and the number of Deaths that this added,
 -- 0 or 1
@@ -22,7 +30,9 @@ pub record LeftView : Type 0 where
   pub client : ℕ
   pub priority : ℕ
   pub joined : Option SeenView
+  pub gone : List Receipt
   pub receipts : List Receipt
+  pub keeps : Bool
   pub died_at : ℕ
   pub seen : Option SeenView
   pub deaths : ℕ
@@ -65,9 +75,23 @@ pub record IsDeathOf (c : ℕ) (rs : List Receipt) (j : ℕ) (o : Option SeenVie
   pub own : IsOwn c j (event.Death c) o
   pub last : IfSome o (λ s. last_place c rs < j)
 
+-- a pass whose receipts are let go, unless all are kept
+abbrev pub let_go : PassView → PassView
+let_go p =
+    if p.keeps then p
+    else record p { gone = p.gone ++ p.receipts; receipts = [] }
+
+-- all receipts of a pass, those that were let go too
+abbrev pub all_receipts : PassView → List Receipt
+all_receipts p = p.gone ++ p.receipts
+
+-- no receipt was let go if all are kept
+abbrev pub GoneIf : Bool → List Receipt → Type 0
+GoneIf keeps gone = keeps ≡ true → gone ≡ []
+
 -- the number of outer entries that a pass added: its Join and its Calls
 abbrev pub events_of_pass : PassView → ℕ
-events_of_pass p = 1 + length p.receipts
+events_of_pass p = 1 + length p.gone + length p.receipts
 
 -- the number of outer entries of a client that has left: its Join, its Calls and its Death, if it
 -- added one

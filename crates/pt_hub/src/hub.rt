@@ -1,7 +1,7 @@
 //! The value that the lock guards.
 
 ghost use Rattle.std.specs.Prelude.{◌≡◌, ◌+◌, ◌<◌, ◌≤◌, ◌^◌, ◌↔◌, ◌≢◌, ◌⊎◌, ◌∷◌, ◌++◌, ℕ, [], Some};
-ghost use Rattle.std.specs.Prelude.{None, false, true, length, option_map};
+ghost use Rattle.std.specs.Prelude.{None, false, true, length, is_some, option_map};
 ghost use Rattle.std.specs.Prelude.{slice_get, IfOk, IfErr, IfSome, IfNone, OnOk, OnErr};
 ghost use Rattle.std.specs.Map.{lookup};
 ghost use Rattle.pt_types.specs.Times.{deadline_nanos, is_bad_deadline};
@@ -31,6 +31,7 @@ use crate::marks::Marks;
 use crate::pass::{ClockPass, Left, Pass, Tick};
 use crate::receipts::seen_after;
 use crate::tally::Tally;
+use http_server::Log;
 use pt_bells::SessionId;
 use pt_cells::Seen;
 use pt_legal::{LegalHistory, Reply};
@@ -50,6 +51,8 @@ pub struct Hub<C: LegalHistory, L: Ledger, A: Allocator + Copy = Global> {
     marks: Marks<A>,
     opened: u64,
     pub(crate) tally: Tally<L>,
+    /// Whether clients keep all their receipts, as the hub needs them to close.
+    keeps: bool,
     alloc: A,
 }
 
@@ -64,6 +67,7 @@ impl<C: LegalHistory, L: Ledger, A: Allocator + Copy> Model for Hub<C, L, A> {
           marks = h.marks.entries;
           opened = h.opened;
           booked = h.tally.total;
+          keeps = h.keeps;
         } };
 
     ghost invariant = { λ h.
@@ -72,6 +76,7 @@ impl<C: LegalHistory, L: Ledger, A: Allocator + Copy> Model for Hub<C, L, A> {
           marks = h.marks.entries;
           opened = h.opened;
           booked = h.tally.total;
+          keeps = h.keeps;
         }) h.tally };
 }
 
@@ -83,6 +88,7 @@ impl<C: LegalHistory, L: Ledger, A: Allocator + Copy> Drop for Hub<C, L, A> {
             marks: _,
             opened: _,
             tally: _,
+            keeps: _,
             alloc: _,
         } = self;
     }
@@ -90,7 +96,8 @@ impl<C: LegalHistory, L: Ledger, A: Allocator + Copy> Drop for Hub<C, L, A> {
 
 impl<C: LegalHistory, L: Ledger, A: Allocator + Copy> Hub<C, L, A> {
     /// Creates a hub over an empty core, with its own ledger, and a clock. The cells of its entries
-    /// are made in `heap`. Without one, no cells are made, and nothing is seen.
+    /// are made in `heap`. Without one, no cells are made, nothing is seen, and clients may let
+    /// go of their receipts.
     pub fn new(
         core: C,
         alloc: A,
@@ -102,7 +109,8 @@ impl<C: LegalHistory, L: Ledger, A: Allocator + Copy> Hub<C, L, A> {
         requires parts { blank.parts ≡ 2 ^ 63 }
         ensures core { result.0.desk.core ≡ record { core = C.seen core; cells = [] } }
         ensures hub { (result.0.desk.accounts ≡ []) × (result.0.marks ≡ [])
-            × (result.0.opened ≡ 0) × (result.0.booked ≡ 0) }
+            × (result.0.opened ≡ 0) × (result.0.booked ≡ 0)
+            × (result.0.keeps ≡ is_some heap) }
         ensures clock { result.1.moments ≡ [] }
     {
         let desk = Desk::new(core, alloc, heap);
@@ -113,6 +121,7 @@ impl<C: LegalHistory, L: Ledger, A: Allocator + Copy> Hub<C, L, A> {
             marks: HashMap::new(alloc),
             opened: 0,
             tally,
+            keeps: heap.is_some(),
             alloc,
         };
         let clock = ClockPass {
@@ -136,11 +145,14 @@ impl<C: LegalHistory, L: Ledger, A: Allocator + Copy> Hub<C, L, A> {
                 let mut share = self.tally.part();
                 self.tally.count(&mut share);
                 let seen = self.desk.seen(place);
+                let gone = Log::new();
                 Ok(Pass {
                     client: ClientId(place),
                     priority,
                     seen,
+                    gone,
                     receipts: Vec::new(self.alloc),
+                    keeps: self.keeps,
                     share,
                 })
             }
@@ -159,7 +171,9 @@ impl<C: LegalHistory, L: Ledger, A: Allocator + Copy> Hub<C, L, A> {
           client = pass.client;
           priority = pass.priority;
           joined = pass.seen;
+          gone = pass.gone;
           receipts = pass.receipts;
+          keeps = pass.keeps;
           died_at = next_place self.old.desk;
           seen = result.seen;
           deaths = one_if (is_alive (past (kept self.old.desk)) pass.client);
@@ -170,7 +184,9 @@ impl<C: LegalHistory, L: Ledger, A: Allocator + Copy> Hub<C, L, A> {
             client,
             priority,
             seen: joined,
+            gone,
             receipts,
+            keeps,
             mut share,
         } = pass;
         let (deaths, seen) = match self.desk.die(client) {
@@ -187,7 +203,9 @@ impl<C: LegalHistory, L: Ledger, A: Allocator + Copy> Hub<C, L, A> {
             client,
             priority,
             joined,
+            gone,
             receipts,
+            keeps,
             died_at,
             seen,
             deaths,

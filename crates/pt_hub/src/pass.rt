@@ -1,9 +1,14 @@
 //! The shares of the ledger that a client, a dead client and a clock hold, and what they did.
 
+ghost use Rattle.std.specs.Prelude.{◌≡◌, ◌++◌};
+ghost use Rattle.pt_hub.specs.Passes.{receipts_of};
+
+use http_server::Log;
 use pt_cells::Seen;
 use pt_types::{Call, ClientId, Clock, Moment, Outcome, Priority};
 use std::alloc::{Allocator, Global};
 use std::marker::Model;
+use std::snapshot::Snapshot;
 use std::sync::ledger::{Ledger, Share};
 
 /// A call that a client made: its place, its answer once it was taken, and its entry with its cell,
@@ -37,19 +42,31 @@ pub struct Tick {
     pub moment: Moment,
 }
 
-/// A living client. Contracts see its number, its priority and its receipts.
+// Notes receipts.
+fn note(log: &mut Log<Snapshot<Receipt>, ()>, receipts: &[Receipt])
+    ensures { receipts_of log.new.items ≡ receipts_of log.old.items ++ receipts.now }
+{
+    for receipt in receipts {
+        *log = log.and(&Snapshot::of(receipt), &());
+    }
+}
+
+/// A living client. Contracts see its number, its priority, its receipts and those that it let go.
 #[derive(Drop)]
 pub struct Pass<L: Ledger, A: Allocator + Copy = Global> {
     pub(crate) client: ClientId,
     pub(crate) priority: Priority,
     pub(crate) seen: Option<Seen>,
+    /// The first receipts, if they were let go. For proofs only, they take no memory.
+    pub(crate) gone: Log<Snapshot<Receipt>, ()>,
     pub(crate) receipts: Vec<Receipt, A>,
+    pub(crate) keeps: bool,
     pub(crate) share: Share<L>,
 }
 
 impl<L: Ledger, A: Allocator + Copy> Model for Pass<L, A> {
-    ghost use Rattle.std.specs.Prelude.{◌≡◌, ◌+◌, vec_len};
-    ghost use Rattle.pt_hub.specs.Passes.{PassView, AreReceipts, IsJoinOf};
+    ghost use Rattle.std.specs.Prelude.{◌≡◌, ◌+◌, length, vec_len};
+    ghost use Rattle.pt_hub.specs.Passes.{PassView, AreReceipts, GoneIf, IsJoinOf, receipts_of};
 
     ghost Value = { PassView };
 
@@ -57,11 +74,15 @@ impl<L: Ledger, A: Allocator + Copy> Model for Pass<L, A> {
       client = p.client;
       priority = p.priority;
       seen = p.seen;
+      gone = receipts_of p.gone.items;
       receipts = p.receipts.items;
+      keeps = p.keeps;
     } };
 
-    ghost invariant = { λ p. (p.share.parts ≡ 1) × (p.share.amount ≡ 1 + vec_len p.receipts)
-        × AreReceipts p.client p.receipts.items × IsJoinOf p.client p.priority p.seen };
+    ghost invariant = { λ p. (p.share.parts ≡ 1)
+        × (p.share.amount ≡ 1 + length (receipts_of p.gone.items) + vec_len p.receipts)
+        × AreReceipts p.client p.receipts.items × IsJoinOf p.client p.priority p.seen
+        × GoneIf p.keeps (receipts_of p.gone.items) };
 }
 
 /// What a client leaves. Contracts also see the place of its Death.
@@ -69,7 +90,9 @@ pub struct Left<L: Ledger, A: Allocator + Copy = Global> {
     pub(crate) client: ClientId,
     pub(crate) priority: Priority,
     pub(crate) joined: Option<Seen>,
+    pub(crate) gone: Log<Snapshot<Receipt>, ()>,
     pub(crate) receipts: Vec<Receipt, A>,
+    pub(crate) keeps: bool,
     pub(crate) died_at: u64,
     pub(crate) seen: Option<Seen>,
     pub(crate) deaths: u64,
@@ -77,8 +100,9 @@ pub struct Left<L: Ledger, A: Allocator + Copy = Global> {
 }
 
 impl<L: Ledger, A: Allocator + Copy> Model for Left<L, A> {
-    ghost use Rattle.std.specs.Prelude.{◌≡◌, ◌+◌, ◌≤◌, vec_len};
-    ghost use Rattle.pt_hub.specs.Passes.{LeftView, AreReceipts, IsJoinOf, IsDeathOf};
+    ghost use Rattle.std.specs.Prelude.{◌≡◌, ◌+◌, ◌≤◌, length, vec_len};
+    ghost use Rattle.pt_hub.specs.Passes.{LeftView, AreReceipts, GoneIf, IsJoinOf, IsDeathOf};
+    ghost use Rattle.pt_hub.specs.Passes.{receipts_of};
 
     ghost Value = { LeftView };
 
@@ -86,16 +110,19 @@ impl<L: Ledger, A: Allocator + Copy> Model for Left<L, A> {
       client = p.client;
       priority = p.priority;
       joined = p.joined;
+      gone = receipts_of p.gone.items;
       receipts = p.receipts.items;
+      keeps = p.keeps;
       died_at = p.died_at;
       seen = p.seen;
       deaths = p.deaths;
     } };
 
     ghost invariant = { λ p. (p.share.parts ≡ 1) × (p.deaths ≤ 1)
-        × (p.share.amount ≡ 1 + p.deaths + vec_len p.receipts)
+        × (p.share.amount ≡ 1 + p.deaths + length (receipts_of p.gone.items) + vec_len p.receipts)
         × AreReceipts p.client p.receipts.items × IsJoinOf p.client p.priority p.joined
-        × IsDeathOf p.client p.receipts.items p.died_at p.seen };
+        × IsDeathOf p.client p.receipts.items p.died_at p.seen
+        × GoneIf p.keeps (receipts_of p.gone.items) };
 }
 
 // Not derived, so that code that drops what clients leave proves nothing of its parts.
@@ -105,7 +132,9 @@ impl<L: Ledger, A: Allocator + Copy> Drop for Left<L, A> {
             client: _,
             priority: _,
             joined: _,
+            gone: _,
             receipts: _,
+            keeps: _,
             died_at: _,
             seen: _,
             deaths: _,
@@ -142,7 +171,19 @@ impl<L: Ledger, A: Allocator + Copy> Drop for ClockPass<L, A> {
 }
 
 impl<L: Ledger, A: Allocator + Copy> Pass<L, A> {
-    ghost use Rattle.std.specs.Prelude.{◌≡◌};
+    ghost use Rattle.std.specs.Prelude.{◌≡◌, ◌++◌, [], if◌then◌else◌};
+    ghost use Rattle.pt_hub.specs.Passes.{let_go};
+
+    /// Lets go of the receipts, unless all are kept.
+    pub fn let_go(&mut self)
+        ensures { self.new ≡ let_go self.old }
+    {
+        if self.keeps {
+            return;
+        }
+        note(&mut self.gone, self.receipts.as_slice());
+        self.receipts.clear();
+    }
 
     /// Returns the client's number.
     pub fn client(&self) -> ClientId

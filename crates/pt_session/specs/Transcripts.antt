@@ -16,7 +16,7 @@ use Rattle.pt_lines.specs.declared.reply.Word.TheVariants.{Outcome, Refusal}
 use Rattle.pt_lines.specs.Replies.{reply_line}
 use Rattle.pt_hub.specs.declared.pass.Receipt.{Receipt}
 use Rattle.pt_hub.specs.declared.pass.Tick.{Tick as Reported}
-use Rattle.pt_hub.specs.Passes.{PassView, LeftView, ClockView}
+use Rattle.pt_hub.specs.Passes.{PassView, LeftView, ClockView, all_receipts}
 use Rattle.pt_session.specs.Readings.{Reading}
 
 -- a submitted line with its word, or none if its call is open  [profile]
@@ -134,12 +134,20 @@ calls_of rs = map (λ r. (r.call, r.answer)) rs
 -- are of the accepted calls  [profile]
 abbrev pub IsPassOf : List Exchange → Option PassView → Type 0
 IsPassOf xs None = (hellos_in xs ≡ []) × (asked_in xs ≡ [])
-IsPassOf xs (Some p) = (hellos_in xs ≡ p.priority ∷ []) × (calls_of p.receipts ≡ asked_in xs)
+IsPassOf xs (Some p) =
+    (hellos_in xs ≡ p.priority ∷ []) × (calls_of (all_receipts p) ≡ asked_in xs)
 
 -- the pass that a client left, without its Death
 abbrev pub pass_of : LeftView → PassView
 pass_of l =
-    record { client = l.client; priority = l.priority; seen = l.joined; receipts = l.receipts }
+    record {
+      client = l.client;
+      priority = l.priority;
+      seen = l.joined;
+      gone = l.gone;
+      receipts = l.receipts;
+      keeps = l.keeps;
+    }
 
 -- a client left something exactly if a hello was accepted; it had that hello's priority, and its
 -- receipts are of the accepted calls  [profile]

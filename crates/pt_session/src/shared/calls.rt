@@ -12,6 +12,7 @@ ghost use Rattle.pt_hub.specs.Desks.{kept, IsRefusedAs, call_refusal};
 ghost use Rattle.pt_hub.specs.Hubs.{Joins, Leaves, Sends, Takes, Ticks, answered, has_ended};
 ghost use Rattle.pt_hub.specs.Hubs.{takeable};
 ghost use Rattle.pt_hub.specs.Asking.{Asks, HasAsked};
+ghost use Rattle.pt_hub.specs.Passes.{all_receipts};
 ghost use Rattle.pt_session.specs.Stays.{Found, Made};
 
 use crate::shared::Shared;
@@ -29,7 +30,7 @@ impl<C: LegalHistory, L: Ledger> Shared<C, L> {
         session: SessionId,
         priority: Priority,
     ) -> Result<Pass<L>, Refusal>
-        ensures pass { IfOk result (λ pass. (pass.priority ≡ priority) × (pass.receipts ≡ [])) }
+        ensures pass { IfOk result (λ pass. (pass.priority ≡ priority) × (all_receipts pass ≡ [])) }
         ensures ok { IfOk result (λ pass. Made (λ old new. Joins old priority new pass)) }
         ensures err { IfErr result (λ refusal. Found (λ hub. IsRefusedAs
             (refusal_with_seals (kept hub.desk).limit (past (kept hub.desk)) (event.Join priority))
@@ -163,7 +164,7 @@ impl<C: LegalHistory, L: Ledger> Shared<C, L> {
     /// Lets a client die, and returns what it leaves.
     pub fn die<R: Wait>(&self, rt: &R, pass: Pass<L>) -> Left<L>
         ensures left { (result.client ≡ pass.client) × (result.priority ≡ pass.priority)
-            × (result.receipts ≡ pass.receipts) }
+            × (result.gone ≡ pass.gone) × (result.receipts ≡ pass.receipts) }
         ensures dies { Made (λ old new. Leaves old new pass result) }
     {
         let mut room = self.enter(rt);

@@ -4,7 +4,7 @@ use Rattle.pt_model.specs.Records.{Told}
 use Rattle.pt_model.specs.Queries.{told_if}
 use Rattle.pt_hub.specs.Desks.{next_answer}
 use Rattle.pt_hub.specs.Hubs.{HubView, Sends, answered, takeable_if}
-use Rattle.pt_hub.specs.Passes.{AreReceipts, PassView}
+use Rattle.pt_hub.specs.Passes.{AreReceipts, PassView, receipts_of}
 use Rattle.pt_hub.proofs.ReceiptOrder.{receipts-answered}
 use Rattle.pt_hub.specs.declared.pass.Receipt.{Receipt}
 use Rattle.pt_hub.proofs.HubEvents.{sends_and_takes}
@@ -19,13 +19,16 @@ returns-in-Ok-default-Some-clause-ok g c =
       marks = c.self.inside.marks.entries;
       opened = c.self.inside.opened;
       booked = c.self.inside.tally.total;
+      keeps = c.self.inside.keeps;
     } in
     let pending : PassView =
     record {
       client = c.pass-2.inside.client;
       priority = c.pass-2.inside.priority;
       seen = c.pass-2.inside.seen;
+      gone = receipts_of c.pass-2.inside.gone.items;
       receipts = c.pass-2.inside.receipts.items;
+      keeps = c.pass-2.inside.keeps;
     } in
     let sends : Sends c.args.self.now c.args.pass.now c.args.call between pending
     c.in-Ok-default-Some.sent =
@@ -74,7 +77,9 @@ returns-in-Ok-default-Some-clause-pass g c =
         client = c.pass-2.inside.client;
         priority = c.pass-2.inside.priority;
         seen = c.pass-2.inside.seen;
+        gone = receipts_of c.pass-2.inside.gone.items;
         receipts = rs;
+        keeps = c.pass-2.inside.keeps;
       }) c.answer.ensures.items
           ∙ ap (λ (p : PassView). record p { receipts = answered p.receipts o })
           (c.pass-2.view_is ∙ c.in-Ok-default-Some.ensures.ok.its_pass);
@@ -95,6 +100,7 @@ invariant_of-self g c =
       marks = c.self.inside.marks.entries;
       opened = c.self.inside.opened;
       booked = c.self.inside.tally.total;
+      keeps = c.self.inside.keeps;
     } in
     hub-took old c.take.new.self c.self.inside.tally c.self.invariant c.take.ensures.kept
 
@@ -114,4 +120,5 @@ invariant_of-pass g c = (
   subst (λ (rs : List Receipt). AreReceipts c.pass-2.inside.client rs) (sym c.answer.ensures.items)
       (receipts-answered c.pass-2.inside.client _ _ c.pass-2.invariant.2),
   c.pass-2.invariant.3,
+  c.pass-2.invariant.4,
 )

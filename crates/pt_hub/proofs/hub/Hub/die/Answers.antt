@@ -6,7 +6,7 @@ use Rattle.pt_legal.specs.Cores.{past}
 use Rattle.pt_hub.specs.declared.pass.Receipt.{Receipt}
 use Rattle.pt_hub.specs.Desks.{Desk as Seen, kept, one_if}
 use Rattle.pt_hub.specs.Hubs.{HubView, next_place}
-use Rattle.pt_hub.specs.Passes.{LeftView, last_place}
+use Rattle.pt_hub.specs.Passes.{LeftView, last_place, receipts_of}
 use Rattle.pt_hub.proofs.HubEvents.{dies}
 use Rattle.pt_hub.proofs.HubLemmas.{hub-died, hub-kept}
 use Rattle.pt_hub.proofs.KnownRefusals.{death-lives}
@@ -23,6 +23,7 @@ invariant_of-self g c =
       opened =
           c.self.inside.opened;
       booked = c.self.inside.tally.total;
+      keeps = c.self.inside.keeps;
     } in
     let new : HubView =
     record {
@@ -31,6 +32,7 @@ invariant_of-self g c =
       opened =
           c.self.inside.opened;
       booked = c.count.new.self.total;
+      keeps = c.self.inside.keeps;
     } in
     hub-died old new c.self.inside.tally c.count.new.self c.self.invariant _ c.in-Some.field-0
     c.len-died_at.ensures.starts c.in-Some.ensures.some
@@ -44,6 +46,7 @@ returns-clause-alive g c =
       marks = c.self.inside.marks.entries;
       opened = c.self.inside.opened;
       booked = c.self.inside.tally.total;
+      keeps = c.self.inside.keeps;
     } in
     rw (← c.self.view_is, ← c.pass.view_is)
     elim c.match-die.branch [
@@ -65,6 +68,7 @@ returns-clause-dead g c =
         marks = c.self.inside.marks.entries;
         opened = c.self.inside.opened;
         booked = c.self.inside.tally.total;
+        keeps = c.self.inside.keeps;
       }) w.in-None.ensures.none.1
     ]
 
@@ -74,7 +78,9 @@ returns-clause-left g c =
       client = c.pass.inside.client;
       priority = c.pass.inside.priority;
       joined = c.pass.inside.seen;
+      gone = receipts_of c.pass.inside.gone.items;
       receipts = c.pass.inside.receipts.items;
+      keeps = c.pass.inside.keeps;
       died_at = n;
       seen = c.match-die.deaths.1;
       deaths = m;
@@ -99,6 +105,7 @@ invariant_of-self-in-None g c =
       marks = c.self.inside.marks.entries;
       opened = c.self.inside.opened;
       booked = c.self.inside.tally.total;
+      keeps = c.self.inside.keeps;
     } in
     hub-kept old c.die.new.self c.self.inside.tally c.self.invariant c.in-None.ensures.none.1
 
@@ -124,6 +131,7 @@ invariant_of-result g c =
               (λ s. last_place c.client.inside.0 rs < c.len-died_at.result))
               w.as_slice.ensures.value w.seen_after.ensures.later);
         },
+        c.pass.invariant.4,
       )
       | in-None w ↦ rw (w.share-is, w.deaths-is) (
         c.pass.invariant.0,
@@ -132,5 +140,6 @@ invariant_of-result g c =
         c.pass.invariant.2,
         c.pass.invariant.3,
         record { own = tt; last = tt },
+        c.pass.invariant.4,
       )
     ]

@@ -1,9 +1,9 @@
-use Rattle.std.proofs.Common.{arith, refl, sym, ap, ◌∙◌, subst, List}
+use Rattle.std.proofs.Common.{arith, refl, sym, ap, ◌∙◌, subst, length, List}
 use Rattle.pt_model.specs.declared.entry.Event.TheVariants as event
 use Rattle.pt_hub.specs.declared.pass.Receipt.{Receipt}
 use Rattle.pt_hub.specs.Desks.{Desk as Seen, kept}
 use Rattle.pt_hub.specs.Hubs.{HubView}
-use Rattle.pt_hub.specs.Passes.{AreReceipts}
+use Rattle.pt_hub.specs.Passes.{AreReceipts, receipts_of}
 use Rattle.pt_hub.proofs.HubEvents.{joins}
 use Rattle.pt_hub.proofs.HubLemmas.{hub-kept, hub-more}
 use Rattle.pt_hub.proofs.KnownRefusals.{refused-alike}
@@ -19,6 +19,7 @@ invariant_of-self g c =
       opened =
           c.self.inside.opened;
       booked = c.self.inside.tally.total;
+      keeps = c.self.inside.keeps;
     } in
     let new : HubView =
     record {
@@ -27,6 +28,7 @@ invariant_of-self g c =
       opened =
           c.self.inside.opened;
       booked = c.count.new.self.total;
+      keeps = c.self.inside.keeps;
     } in
     hub-more old new c.self.inside.tally c.count.new.self c.self.invariant _ c.in-Ok.field-0
     c.len-place.ensures.starts c.len-place.ensures.legal c.in-Ok.ensures.ok
@@ -42,12 +44,14 @@ returns-in-Ok-clause-ok g c =
       opened =
           c.self.inside.opened;
       booked = c.self.inside.tally.total;
+      keeps = c.self.inside.keeps;
     } in
     rw (← c.self.view_is)
     (joins old c.args.priority c.join.new.self c.count.new.self.total c.in-Ok.field-0
     c.in-Ok.ensures.ok c.in-Ok.ensures.account c.in-Ok.ensures.cells c.len-place.result
     c.len-place.ensures.value c.seen-seen.result c.seen-seen.ensures.there
-    c.new.result.items c.new.ensures.items)
+    (receipts_of c.new-gone.result.items) c.new.result.items
+    (ap receipts_of c.new-gone.ensures) c.new.ensures.items)
 
 pub returns-in-Err-clause-err : goal.returns-in-Err-clause-err
 returns-in-Err-clause-err g c =
@@ -61,6 +65,7 @@ returns-in-Err-clause-unchanged g c =
       marks = c.self.inside.marks.entries;
       opened = c.self.inside.opened;
       booked = c.self.inside.tally.total;
+      keeps = c.self.inside.keeps;
     }) c.in-Err.ensures.unchanged ∙ c.self.view_is
 
 pub invariant_of-self-in-Err : goal.invariant_of-self-in-Err
@@ -71,6 +76,7 @@ invariant_of-self-in-Err g c =
       marks = c.self.inside.marks.entries;
       opened = c.self.inside.opened;
       booked = c.self.inside.tally.total;
+      keeps = c.self.inside.keeps;
     } in
     hub-kept old c.join.new.self c.self.inside.tally c.self.invariant c.in-Err.ensures.unchanged
 
@@ -78,10 +84,17 @@ invariant_of-self-in-Err g c =
 pub invariant_of-result : goal.invariant_of-result
 invariant_of-result g c = (
   c.count.ensures.parts ∙ c.part-share.ensures.part,
-  omega (arith, c.count.ensures.amount, c.part-share.ensures.amount, c.new.ensures.len),
+  omega (
+    arith,
+    c.count.ensures.amount,
+    c.part-share.ensures.amount,
+    c.new.ensures.len,
+    ap (λ xs. length (receipts_of xs)) c.new-gone.ensures,
+  ),
   subst (λ (rs : List Receipt). AreReceipts c.len-place.result rs) (sym c.new.ensures.items)
       (record { each = tt; rises = tt }),
   own-join (kept c.self.inside.desk) (kept c.join.new.self) c.join.new.self.core c.seen-seen.result
       c.in-Ok.field-0 c.args.priority c.len-place.result c.in-Ok.ensures.ok
       c.len-place.ensures.value c.seen-seen.ensures.there c.seen-seen.ensures.entry,
+  λ _. ap receipts_of c.new-gone.ensures,
 )

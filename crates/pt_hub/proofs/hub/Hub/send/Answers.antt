@@ -5,7 +5,7 @@ use Rattle.pt_types.specs.declared.outcome.Refusal.{Refusal}
 use Rattle.pt_model.specs.Queries.{told_if}
 use Rattle.pt_hub.specs.Desks.{Desk as Seen, IsRefusedAs, kept, next_answer}
 use Rattle.pt_model.specs.declared.entry.Event.TheVariants as event
-use Rattle.pt_hub.specs.Passes.{PassView, AreReceipts, IsOwn, IsReceiptOf, last_place}
+use Rattle.pt_hub.specs.Passes.{PassView, AreReceipts, IsOwn, IsReceiptOf, last_place, receipts_of}
 use Rattle.pt_hub.proofs.OwnCalls.{own-call}
 use Rattle.pt_hub.proofs.ReceiptOrder.{receipts-push}
 use Rattle.pt_hub.specs.Hubs.{HubView, Sends}
@@ -26,6 +26,7 @@ invariant_of-self g c =
       opened =
           c.self.inside.opened;
       booked = c.self.inside.tally.total;
+      keeps = c.self.inside.keeps;
     } in
     let new : HubView =
     record {
@@ -34,6 +35,7 @@ invariant_of-self g c =
       opened =
           c.self.inside.opened;
       booked = c.count.new.self.total;
+      keeps = c.self.inside.keeps;
     } in
     hub-more old new c.self.inside.tally c.count.new.self c.self.invariant _ c.in-Ok.applied
     c.len-place.ensures.starts c.len-place.ensures.legal c.in-Ok.ensures.ok
@@ -48,13 +50,16 @@ returns-in-Ok-clause-ok g c =
       opened =
           c.self.inside.opened;
       booked = c.self.inside.tally.total;
+      keeps = c.self.inside.keeps;
     } in
     let before : PassView =
     record {
       client = c.pass.inside.client;
       priority = c.pass.inside.priority;
       seen = c.pass.inside.seen;
+      gone = receipts_of c.pass.inside.gone.items;
       receipts = c.pass.inside.receipts.items;
+      keeps = c.pass.inside.keeps;
     } in
     let new : HubView = record old { desk = c.call.new.self; booked = c.count.new.self.total } in
     let after : PassView = record before { receipts = c.push_reserved.new.self.items } in
@@ -95,12 +100,15 @@ returns-in-Err-clause-unchanged g c = (
     marks = c.self.inside.marks.entries;
     opened = c.self.inside.opened;
     booked = c.self.inside.tally.total;
+    keeps = c.self.inside.keeps;
   }) c.in-Err.ensures.unchanged ∙ c.self.view_is,
   ap (λ (rs : List Receipt). record {
     client = c.pass.inside.client;
     priority = c.pass.inside.priority;
     seen = c.pass.inside.seen;
+    gone = receipts_of c.pass.inside.gone.items;
     receipts = rs;
+    keeps = c.pass.inside.keeps;
   }) c.has_room.ensures.items ∙ c.pass.view_is,
 )
 
@@ -120,6 +128,7 @@ invariant_of-self-in-Err g c =
       marks = c.self.inside.marks.entries;
       opened = c.self.inside.opened;
       booked = c.self.inside.tally.total;
+      keeps = c.self.inside.keeps;
     } in
     hub-kept old c.call.new.self c.self.inside.tally c.self.invariant c.in-Err.ensures.unchanged
 
@@ -130,7 +139,9 @@ returns-then-not-has_room-clause-unchanged g c = (
     client = c.pass.inside.client;
     priority = c.pass.inside.priority;
     seen = c.pass.inside.seen;
+    gone = receipts_of c.pass.inside.gone.items;
     receipts = rs;
+    keeps = c.pass.inside.keeps;
   }) c.has_room.ensures.items ∙ c.pass.view_is,
 )
 
@@ -169,4 +180,5 @@ invariant_of-pass-in-Ok g c =
           ∙ ap (λ (rs : List Receipt). rs ++ made ∷ []) c.has_room.ensures.items))
           (receipts-push client c.pass.inside.receipts.items made c.pass.invariant.2 own later),
       c.pass.invariant.3,
+      c.pass.invariant.4,
     )

@@ -3,7 +3,7 @@ use Rattle.std.specs.Prelude.{IsSome}
 use Rattle.pt_model.specs.Records.{Told}
 use Rattle.pt_legal.specs.Replies.{told_of}
 use Rattle.pt_hub.specs.Hubs.{HubView, is_pending}
-use Rattle.pt_hub.specs.Passes.{AreReceipts, PassView}
+use Rattle.pt_hub.specs.Passes.{AreReceipts, PassView, receipts_of}
 use Rattle.pt_hub.proofs.ReceiptOrder.{receipts-answered}
 use Rattle.pt_hub.specs.declared.pass.Receipt.{Receipt}
 use Rattle.pt_hub.proofs.HubEvents.{takes}
@@ -18,13 +18,16 @@ returns-clause-some g c =
       marks = c.self.inside.marks.entries;
       opened = c.self.inside.opened;
       booked = c.self.inside.tally.total;
+      keeps = c.self.inside.keeps;
     } in
     let before : PassView =
     record {
       client = c.pass.inside.client;
       priority = c.pass.inside.priority;
       seen = c.pass.inside.seen;
+      gone = receipts_of c.pass.inside.gone.items;
       receipts = c.pass.inside.receipts.items;
+      keeps = c.pass.inside.keeps;
     } in
     let reply = c.in_ok-reply.reply in
     rw (← c.self.view_is, ← c.pass.view_is)
@@ -42,6 +45,7 @@ invariant_of-self g c =
       marks = c.self.inside.marks.entries;
       opened = c.self.inside.opened;
       booked = c.self.inside.tally.total;
+      keeps = c.self.inside.keeps;
     } in
     hub-took old c.take.new.self c.self.inside.tally c.self.invariant c.take.ensures.kept
 
@@ -55,4 +59,5 @@ invariant_of-pass g c = (
   subst (λ (rs : List Receipt). AreReceipts c.pass.inside.client rs) (sym c.answer.ensures.items)
       (receipts-answered c.pass.inside.client _ _ c.pass.invariant.2),
   c.pass.invariant.3,
+  c.pass.invariant.4,
 )
