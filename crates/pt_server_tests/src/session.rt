@@ -1,3 +1,4 @@
+mod crossing;
 mod memory;
 mod remains;
 mod sides;
