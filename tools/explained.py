@@ -1,5 +1,5 @@
 """Reads what `ptserver explain` writes: for each line its entries and their reasons, or why it was
-refused, and its answers."""
+refused, its answers, and what the objects that it names do after it."""
 
 import os
 import re
@@ -11,6 +11,7 @@ ENTRY = re.compile(r" *(\d+)  (([A-Z][a-z]+)\(([^)]*)\)) +(.*)")
 REFUSAL = re.compile(r" +refused +(.*)")
 REASON = re.compile(r"(.*?)(?: +\[(.*)\])?")
 SOURCE = re.compile(r" +\[(.*)\]")
+OBJECT = re.compile(r" {7}([^ :]+): (.*)")
 
 
 @dataclass
@@ -42,6 +43,14 @@ class Answer:
 
 
 @dataclass
+class Object:
+    """An object that a line's call names, and what it does after the line."""
+
+    name: str
+    state: str
+
+
+@dataclass
 class Step:
     """A line of a script, by its number in the script and in its client's lines."""
 
@@ -52,6 +61,7 @@ class Step:
     entries: list = field(default_factory=list)
     refusal: Reason | None = None
     answers: list = field(default_factory=list)
+    objects: list = field(default_factory=list)
 
     def read(self, row):
         """Reads a row below the line. Rows that are not known are remarks."""
@@ -64,6 +74,8 @@ class Step:
             self.entries.append(Entry(int(place), text, kind, arguments.split(", "), reason))
         elif found := REFUSAL.fullmatch(row):
             self.refusal = Reason(*REASON.fullmatch(found[1]).groups())
+        elif found := OBJECT.fullmatch(row):
+            self.objects.append(Object(*found.groups()))
         elif found := SOURCE.fullmatch(row):
             # The source did not fit into the row before.
             reason = self.entries[-1].reason if self.entries else self.refusal

@@ -9,12 +9,12 @@ _ptserver() {
         mapfile -t COMPREPLY < <(compgen -W "script explain check serve --help --version" -- "$word")
     elif [ "$before" = --clock ]; then
         mapfile -t COMPREPLY < <(compgen -W "lines system" -- "$word")
-    elif [ "$before" = --socket ] || [ "$before" = "<" ]; then
+    elif [ "$before" = --socket ] || [ "$before" = --trace ] || [ "$before" = "<" ]; then
         mapfile -t COMPREPLY < <(compgen -f -- "$word")
     elif [ "$command" = check ]; then
         mapfile -t COMPREPLY < <(compgen -W "--late --help" -- "$word"; compgen -f -- "$word")
     elif [ "$command" = serve ]; then
-        mapfile -t COMPREPLY < <(compgen -W "--socket --clock --sessions --help" -- "$word")
+        mapfile -t COMPREPLY < <(compgen -W "--socket --clock --sessions --trace --help" -- "$word")
     else
         mapfile -t COMPREPLY < <(compgen -W "--help" -- "$word")
     fi

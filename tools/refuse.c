@@ -4,8 +4,8 @@
  *                     accept4 or pthread_create
  *     REFUSED_AT=K    the number of the call that fails, counted from 1
  *     REFUSED_MARK=F  a file that is made once it has failed
- *     MOST_BYTES=N    the most bytes that each read of standard input and each write to standard
- *                     output moves
+ *     MOST_BYTES=N    the most bytes that a recv, a send, a read of standard input or a write to
+ *                     standard output moves
  *
  * Of read and write, only calls on these two streams count.
  */
@@ -92,13 +92,13 @@ ssize_t write(int file, const void *bytes, size_t length)
 ssize_t recv(int socket, void *bytes, size_t length, int flags)
 {
     ssize_t (*next)(int, void *, size_t, int) = dlsym(RTLD_NEXT, "recv");
-    return is_broken("recv", ECONNRESET, socket) ? -1 : next(socket, bytes, length, flags);
+    return is_broken("recv", ECONNRESET, socket) ? -1 : next(socket, bytes, at_most(length), flags);
 }
 
 ssize_t send(int socket, const void *bytes, size_t length, int flags)
 {
     ssize_t (*next)(int, const void *, size_t, int) = dlsym(RTLD_NEXT, "send");
-    return is_broken("send", EPIPE, socket) ? -1 : next(socket, bytes, length, flags);
+    return is_broken("send", EPIPE, socket) ? -1 : next(socket, bytes, at_most(length), flags);
 }
 
 int accept4(int socket, struct sockaddr *address, socklen_t *length, int flags)

@@ -233,7 +233,8 @@ impl<'a, C: ReadableHistory, A: Allocator + Copy> Course<'a, C, A> {
         Ok(weight)
     }
 
-    // Appends the line of a block, its entries and why they came, and the answers as they are shown.
+    // Appends the line of a block, its entries and why they came, and the answers as they are
+    // shown.
     fn put_block(
         &self,
         block: &Block<'_>,
@@ -249,7 +250,7 @@ impl<'a, C: ReadableHistory, A: Allocator + Copy> Course<'a, C, A> {
             Cut::Long => put(out, b"<")?,
         }
         put(out, b"\n")?;
-        reasons.put_rows(out, self.engine.core())?;
+        reasons.put_rows(out, &self.engine)?;
         put(out, &self.shown)
     }
 

@@ -2,18 +2,20 @@
 
 use crate::fault::CheckFault;
 use pt_engine::Engine;
-use pt_explain::{own_reason, put_entries, put_refusal, refused_reason};
+use pt_explain::{own_reason, put_effects};
 use pt_lines::{Cut, ScriptLine};
+use pt_model::Event;
 use pt_readable::ReadableHistory;
 use pt_rules::Reason;
+use pt_types::Refusal;
 use std::alloc::Allocator;
 
-/// The place at which a line's own entry is added, and why it is, or why the line is refused.
-#[derive(Clone, Copy)]
+/// What a line asks for, and the place at which its own entry is added and why it is, if it is.
+#[derive(Drop)]
 pub struct Reasons {
     place: u64,
+    asked: Result<Event, Refusal>,
     own: Reason,
-    refused: Reason,
 }
 
 impl Reasons {
@@ -23,23 +25,23 @@ impl Reasons {
         line: &Cut,
     ) -> Reasons {
         let asked = engine.event_of(ScriptLine::of(line));
+        let own = own_reason(engine, &asked);
         Reasons {
             place: engine.entries(),
-            own: own_reason(engine, &asked),
-            refused: refused_reason(engine, &asked),
+            asked,
+            own,
         }
     }
 
-    /// Appends the entries that the line added, or that it was refused. The history may have been
-    /// sealed for it, at its place.
+    /// Appends the entries that the line added, or that it was refused, once it is answered. The
+    /// history may have been sealed for it, at its place.
     pub fn put_rows<C: ReadableHistory, A: Allocator + Copy>(
         &self,
         out: &mut Vec<u8, A>,
-        core: &C,
+        engine: &Engine<C, A>,
     ) -> Result<(), CheckFault> {
-        if core.first() <= self.place
-            && put_refusal(out, core, self.place, &self.refused).is_ok()
-            && put_entries(out, core, self.place, &self.own).is_ok()
+        if engine.core().first() <= self.place
+            && put_effects(out, engine, &self.asked, self.place, &self.own).is_ok()
         {
             return Ok(());
         }

@@ -30,6 +30,8 @@ pub struct Service {
     pub clock: ClockWord,
     /// The number of connections, or 0 for no limit.
     pub sessions: u64,
+    /// The path of the file that gets the trace, if one is asked for.
+    pub trace: Option<String>,
 }
 
 /// The traces to check, and how.
@@ -75,10 +77,15 @@ fn read_service(alloc: Global, options: &ArgMatches) -> Result<Service, Error> {
         Some("system") => ClockWord::System,
         _ => ClockWord::Lines,
     };
+    let trace = match options.get_str("trace") {
+        Some(file) => Some(String::from_str(alloc, file)?),
+        None => None,
+    };
     Ok(Service {
         path: String::from_str(alloc, options.get_str("socket").unwrap_or(""))?,
         clock,
         sessions: options.get_one::<u64>("sessions").unwrap_or(0),
+        trace,
     })
 }
 

@@ -24,6 +24,8 @@ const CLOCK: &str = "What deadlines are compared with: the moment lines, or the 
 
 const SESSIONS: &str = "Accept this many connections, and end after they have; 0 sets no limit";
 
+const TRACE: &str = "Write each event, with the answers that it brought, to this file, as a trace";
+
 const CONNECTIONS: &str = "\
 It writes `ready` once it listens. A connection sends one call a line, without a client's name, and
 each line is answered with its number and a result:
@@ -164,6 +166,10 @@ fn sessions<'a>(alloc: Global) -> Arg<'a> {
         .default_value("0")
 }
 
+fn trace<'a>(alloc: Global) -> Arg<'a> {
+    option(alloc, "trace", "FILE", TRACE).action(ArgAction::Set)
+}
+
 // Returns a word with its name, what it does, and what else its help says.
 fn word<'a>(alloc: Global, name: &'a str, about: &'a str, more: &'a str) -> Command<'a> {
     Command::new(alloc, name).about(about).after_help(more)
@@ -191,7 +197,10 @@ fn check<'a>(alloc: Global) -> Result<Command<'a>, Error> {
 
 // Returns the word `serve` with its options.
 fn serve<'a>(alloc: Global) -> Result<Command<'a>, Error> {
-    let options = Vec::from_array(alloc, [socket(alloc), clock(alloc), sessions(alloc)])?;
+    let options = Vec::from_array(
+        alloc,
+        [socket(alloc), clock(alloc), sessions(alloc), trace(alloc)],
+    )?;
     Ok(word(alloc, "serve", SERVE, CONNECTIONS).args(options)?)
 }
 

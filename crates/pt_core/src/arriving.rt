@@ -5,11 +5,11 @@ ghost use Rattle.pt_types.specs.Operations.{Arrives, operation};
 ghost use Rattle.pt_model.specs.Histories.{place};
 ghost use Rattle.pt_model.specs.Room.{needs_seal, refusal as refusal_in};
 ghost use Rattle.pt_state.specs.Adds.{past};
-ghost use Rattle.pt_machine.specs.Planned.{IsPlanned};
 ghost use Rattle.pt_legal.specs.Applying.{told_at_once};
 ghost use Rattle.pt_core.specs.Settling.{Enters};
 ghost use Rattle.pt_core.specs.Trying.{IsTried};
-ghost use Rattle.pt_core.specs.Wholes.{HasRoom, IsRoomy, IsWhole};
+ghost use Rattle.pt_core.specs.Wholes.{IsRoomy, IsWhole};
+ghost use Rattle.pt_core.specs.Entering.{CanEnter};
 
 use crate::applying::plan;
 use crate::frequent::Tried;
@@ -30,9 +30,7 @@ fn enter_arrival<Q: WaitList, A: Allocator + Copy>(
     n: &Name,
     plan: &Plan,
 ) -> Option<Outcome>
-    requires open { HasRoom body.old (Event.Call c call.now) body.old }
-    requires accepted { refusal_in (past body.old) (Event.Call c call.now) ≡ None }
-    requires planned { IsPlanned (past body.old) (Event.Call c call.now) plan.now }
+    requires can { CanEnter body.old (Event.Call c call.now) plan.now }
     requires operation { operation call.now ≡ Arrives n.now }
     requires waits { plan.now.answer ≡ None }
     ensures enters { Enters body.old.stored (Event.Call c call.now) body.new.stored }
@@ -60,9 +58,7 @@ fn write_arrival<Q: WaitList, A: Allocator + Copy>(
     n: &Name,
     plan: &Plan,
 ) -> Tried
-    requires open { HasRoom body.old (Event.Call c call.now) body.old }
-    requires accepted { refusal_in (past body.old) (Event.Call c call.now) ≡ None }
-    requires planned { IsPlanned (past body.old) (Event.Call c call.now) plan.now }
+    requires can { CanEnter body.old (Event.Call c call.now) plan.now }
     requires operation { operation call.now ≡ Arrives n.now }
     requires waits { plan.now.answer ≡ None }
     requires unsealed { needs_seal body.old.stored.limit (past body.old) (Event.Call c call.now)

@@ -2,7 +2,7 @@
 
 use crate::machine::Core;
 use crate::reading;
-use pt_readable::ReadableHistory;
+use pt_readable::{ReadableHistory, Waiting};
 use pt_types::operations::ObjectClass;
 use pt_types::views::{MutexView, RwlockView};
 use pt_types::{ClientId, Clock, Moment, Name, ObjectId};
@@ -39,6 +39,18 @@ impl<A: Allocator + Copy> ReadableHistory for Core<A> {
 
     fn is_busy(&self, n: &Name, class: ObjectClass) -> Option<bool> {
         reading::is_busy(&self.body, n, class)
+    }
+
+    fn barrier_count(&self, n: &Name) -> Option<u64> {
+        reading::barrier_count(self.body.state(), n)
+    }
+
+    fn is_alive(&self, c: ClientId) -> bool {
+        reading::is_alive(self.body.state(), c)
+    }
+
+    fn waiting(&self, c: ClientId) -> Option<Waiting> {
+        reading::waiting(self.body.state(), c)
     }
 
     fn open_call(&self, c: ClientId) -> Option<u64> {

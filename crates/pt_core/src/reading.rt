@@ -1,16 +1,24 @@
 //! What is read of the tables besides entries and answers.
 
-ghost use Rattle.std.specs.Prelude.{◌≡◌, is_some};
-ghost use Rattle.pt_model.specs.Clients.{clock as clock_in};
-ghost use Rattle.pt_model.specs.Objects.{find as find_in, object_named, objects as objects_in};
+ghost use Rattle.std.specs.Prelude.{◌≡◌, Some, is_some};
+ghost use Rattle.pt_model.specs.Clients.{clock as clock_in, is_alive as is_alive_in};
+ghost use Rattle.pt_model.specs.Moves.{key_by};
+ghost use Rattle.pt_model.specs.Objects.{barrier_count as count_made, find as find_in, kind_of};
+ghost use Rattle.pt_model.specs.Objects.{object_named, objects as objects_in};
+ghost use Rattle.pt_records.specs.Objects.{kind_in_row};
+ghost use Rattle.pt_records.specs.OpenRows.{object_of};
 ghost use Rattle.pt_rwlock.specs.RwlockState.{seen_by};
-ghost use Rattle.pt_readable.specs.Reading.{blocked_at, bound_at, busy_at, mutex_named};
-ghost use Rattle.pt_readable.specs.Reading.{reported, rwlock_named};
+ghost use Rattle.pt_readable.specs.Reading.{blocked_at, bound_at, busy_at, count_at as count_named};
+ghost use Rattle.pt_readable.specs.Reading.{mutex_named, reported, rwlock_named, waiting_of};
 ghost use Rattle.pt_state.specs.Adds.{past};
 ghost use Rattle.pt_state.specs.Reads.{AreTables};
 
 use pt_machine::Body;
+use pt_model::waiting_call::key_with;
 use pt_mutex::MutexObj;
+use pt_readable::Waiting;
+use pt_records::calls::at_object;
+use pt_records::{Object, Open};
 use pt_rwlock::{Held, Holders};
 use pt_state::State;
 use pt_types::operations::{ObjectClass, Operation};
@@ -47,6 +55,41 @@ fn report<A: Allocator + Copy>(lock: &Holders<A>, c: ClientId) -> RwlockView
         reads,
         is_written,
         is_read: !is_written && !lock.is_free(),
+    }
+}
+
+// Returns the count of a barrier, and 0 for any other object.  [XSH pthread_barrier_init]
+fn count_in_row<A: Allocator + Copy>(object: &Object<A>) -> u64
+    ensures { result ≡ count_made (Some (kind_in_row object.now)) }
+{
+    match object {
+        Object::Barrier(barrier) => barrier.count() as u64,
+        _ => 0,
+    }
+}
+
+// Returns the count of the barrier with this number, and 0 for any other object.
+// [XSH pthread_barrier_init]
+fn count_at<A: Allocator + Copy>(state: &State<A>, b: ObjectId) -> u64
+    requires { AreTables state.now }
+    ensures { result ≡ count_made (kind_of (past state.now) b) }
+{
+    match state.objects.at(b.0) {
+        Some(object) => count_in_row(object),
+        None => 0,
+    }
+}
+
+// Returns where an open call waits, and the key that decides its turn there.  [XSH 2.8.4]
+fn turn_of(open: &Open) -> Waiting
+    ensures { result ≡ record {
+      object = object_of «open».now;
+      key = key_by (λ j. «open».now.moved) «open».now.call;
+    } }
+{
+    Waiting {
+        object: at_object(open),
+        key: key_with(&open.call, open.moved),
     }
 }
 
@@ -145,6 +188,37 @@ pub fn is_busy<Q: WaitList, A: Allocator + Copy>(
         Verdict::Reply(Outcome::Done) => Some(false),
         Verdict::Reply(Outcome::Ebusy) => Some(true),
         _ => None,
+    }
+}
+
+/// Returns the count of the barrier that has the name, if one does.  [XSH pthread_barrier_init]
+pub fn barrier_count<A: Allocator + Copy>(state: &State<A>, n: &Name) -> Option<u64>
+    requires { AreTables state.now }
+    ensures { result ≡ count_named (past state.now) n.now }
+{
+    match state.find(n, ObjectClass::Barrier) {
+        Some(b) => Some(count_at(state, b)),
+        None => None,
+    }
+}
+
+/// Returns whether a client lives.  [profile]
+pub fn is_alive<A: Allocator + Copy>(state: &State<A>, c: ClientId) -> bool
+    requires { AreTables state.now }
+    ensures { result ≡ is_alive_in (past state.now) c }
+{
+    state.is_alive(c)
+}
+
+/// Returns where a client's open call waits, and the key that decides its turn there, if the client
+/// has an open call.  [XSH 2.8.4]
+pub fn waiting<A: Allocator + Copy>(state: &State<A>, c: ClientId) -> Option<Waiting>
+    requires { AreTables state.now }
+    ensures { result ≡ waiting_of (past state.now) c }
+{
+    match state.open_of(c) {
+        Some(open) => Some(turn_of(open)),
+        None => None,
     }
 }
 

@@ -1,16 +1,10 @@
 //! Writing one accepted event without a seal.
 
-ghost use Rattle.std.specs.Prelude.{◌≡◌, ◌≤◌, ◌<◌, ◌+◌, length, None, true, false, IfOk, IfErr};
-ghost use Rattle.std.specs.Prelude.{IsOk, OnErr};
-ghost use Rattle.pt_model.specs.Room.{refusal as refusal_in, entry_for};
+ghost use Rattle.std.specs.Prelude.{◌≡◌, ◌<◌, ◌+◌, length, None};
 ghost use Rattle.pt_state.specs.Adds.{past};
 ghost use Rattle.pt_state.specs.Reads.{AreTables};
-ghost use Rattle.pt_machine.specs.Memory.{needs_memory};
-ghost use Rattle.pt_machine.specs.Planned.{IsPlanned};
-ghost use Rattle.pt_core.specs.Stores.{kept, seen};
-ghost use Rattle.pt_core.specs.Wholes.{HasEnough, IsWhole};
-ghost use Rattle.pt_legal.specs.Applying.{IsWritten, IsNotWritten, is_death as is_death_of};
 ghost use Rattle.pt_legal.specs.Applying.{told_at_once, IsToldStill};
+ghost use Rattle.pt_core.specs.Entering.{CanWrite, WritesOnOk};
 
 use crate::settling::{Way, enter, make_room};
 use pt_legal::Applied;
@@ -66,20 +60,8 @@ pub fn write<W: Way, Q: WaitList, A: Allocator + Copy>(
     event: &Event,
     plan: &Plan,
 ) -> Result<Applied, Refusal>
-    requires whole { IsWhole body.old }
-    requires accepted { refusal_in (past body.old) event.now ≡ None }
-    requires planned { IsPlanned (past body.old) event.now plan.now }
-    requires small { plan.now.need ≤ 8195 }
-    ensures whole { IsWhole body.new }
-    ensures ok { IfOk result (λ applied.
-        IsWritten (kept body.old.stored) event.now (kept body.new.stored) applied) }
-    ensures unsealed { IfOk result (λ applied. applied.sealed ≡ None) }
-    ensures err { IfErr result (λ refusal.
-        IsNotWritten (kept body.old.stored) event.now refusal) }
-    ensures unchanged { OnErr result (seen body.new.stored ≡ seen body.old.stored) }
-    ensures death { is_death_of event.now ≡ true → IsOk result }
-    ensures enough { HasEnough body.old event.now
-        → needs_memory (entry_for (past body.old) event.now) ≡ false → IsOk result }
+    requires { CanWrite body.old event.now plan.now }
+    ensures { WritesOnOk body.old event.now result body.new }
 {
     if let Err(refusal) = make_room(body, event, plan.need) {
         return Err(refusal);

@@ -33,6 +33,13 @@ module _ {K V : Type 0} where
   row_read rows i row key below is same =
       slice_get_read rows (length rows) i row refl below is ∙ ap (λ k. Some (k, row.1)) same
 
+  -- the same, of a row that was read
+  pub row_at : (rows : List (K × V)) (i : ℕ) (key : K) (row : K × V) → key_at rows i ≡ Some key
+      → slice_get rows i ≡ Some row → slice_get rows i ≡ Some (key, row.1)
+  row_at rows i key row at is =
+      is ∙ ap (λ k. Some (k, row.1))
+      (same_Some row.0 key (sym (ap (option_map (λ e. e.0)) is) ∙ at))
+
   key_at-set : (rows : List (K × V)) (i : ℕ) (key : K) (v : V) → key_at rows i ≡ Some key
       → (j : ℕ) → key_at (set rows i (key, v)) j ≡ key_at rows j
   key_at-set [] i key v at j = absurd cc

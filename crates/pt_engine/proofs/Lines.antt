@@ -80,3 +80,17 @@ refused_as r s line asks why out told is =
     on_ok r (λ grows.
     subst (λ v. Adds (SaysTo s line v s) out told) (sym is)
     (says_refused s line why out told grows))
+
+-- what is written for the line in a text, if it is answered after its client was counted
+pub says_text : {X E : Type 0} (r : Result X E) (s mid next : Script) (text : List ℕ) (who : Who)
+    (behind : Option (List ℕ)) (number : ℕ) (asks : Result Event Refusal) (out told : List ℕ)
+    → who ≡ who_named (before_space text) → behind ≡ behind_space text → mid ≡ counted s who
+    → number ≡ suc (lines_of_who s.seen who) → asks ≡ event_of_body mid who (body_behind who behind)
+    → OnOk r (Adds (SaysTo mid (record { who = who; number = number }) asks next) out told)
+    → OnOk r (Adds (Says s (short_read text) next) out told)
+says_text r s mid next text who behind number asks out told is_who rest is counts says =
+    on_ok r (λ adds.
+    subst (λ (line : ScriptLine). Adds (Says s line next) out told)
+    (short_by text who behind is_who rest)
+    (says_counted s mid next (record { who = who; body = body_behind who behind }) number asks out
+    told is counts says adds))

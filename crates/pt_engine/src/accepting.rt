@@ -24,7 +24,7 @@ use std::alloc::Allocator;
 pub type Calls = Log<u64, LineId>;
 
 /// Notes an accepted line, whose event was applied. The line is stored for its client if its call
-/// waits, since later answers are only to calls that wait.
+/// waits, since later answers are only to calls that wait. A refused growth is a fault.
 #[inline(always)]
 pub fn note<A: Allocator + Copy>(
     names: &mut Names<A>,
@@ -33,20 +33,21 @@ pub fn note<A: Allocator + Copy>(
     mark: &Mark,
     line: &LineId,
     done: &Applied,
-)
+) -> Result<(), ScriptFault>
     requires room { 0 < asked.old.room }
     requires counted { 0 < lines_of_who names.old.seen line.now.who }
     requires first { mark.now ≡ Mark.Client → number_of names.old.clients line.now.who ≡ None }
-    ensures names { names.new ≡ record names.old {
+    ensures names { OnOk result (names.new ≡ record names.old {
       clients = clients_marked mark.now line.now.who done.now.first names.old.clients;
-    } }
+    }) }
     ensures asked { IsAsked done.now.outcome mark.now line.now
         asked.old.entries asked.new.entries }
     ensures calls { calls.new.items
         ≡ calls_marked mark.now line.now done.now.first calls.old.items }
+    ensures why { IfErr result (λ fault. fault ≡ ScriptFault.Memory) }
 {
     match mark {
-        Mark::Client => names.join(&line.who, ClientId(done.first)),
+        Mark::Client => names.join(&line.who, ClientId(done.first))?,
         Mark::Call(client) => {
             if done.outcome.is_none() {
                 asked.store(*client, line);
@@ -55,6 +56,7 @@ pub fn note<A: Allocator + Copy>(
         }
         Mark::Nothing => {}
     }
+    Ok(())
 }
 
 /// Answers 0 to an accepted hello.

@@ -10,7 +10,7 @@ use crate::names::{CountedLine, Names};
 use crate::telling::refuse;
 use http_server::Log;
 use pt_legal::LegalHistory;
-use pt_lines::{ScriptBody, ScriptLine, Who, read_client};
+use pt_lines::{ClientName, ScriptBody, ScriptLine, Who, read_client};
 use pt_model::Event;
 use pt_types::{Call, ClientId, Clock, Moment, Priority, Refusal};
 use std::alloc::{Allocator, Global};
@@ -154,7 +154,7 @@ impl<C: LegalHistory, A: Allocator + Copy> Engine<C, A> {
                     mark,
                     line,
                     &done,
-                );
+                )?;
                 greet(out, mark, line)?;
                 tell_from(out, &self.core, &self.asked, mark, line, &done)?;
                 Ok(())
@@ -322,6 +322,13 @@ impl<C: LegalHistory, A: Allocator + Copy> Engine<C, A> {
         &self.core
     }
 
+    /// Returns the clients in the order of their joins, each with its name and its number.
+    pub fn clients(&self) -> &[(ClientName, ClientId)]
+        ensures { result.now ≡ self.now.clients }
+    {
+        self.names.clients()
+    }
+
     /// Returns the event that a line would ask for, or why it would ask for none. Counts nothing.
     pub fn event_of(&self, line: ScriptLine) -> Result<Event, Refusal>
         ensures { result ≡ event_of_line (known_by self.now) line }
@@ -383,9 +390,6 @@ impl<C: LegalHistory, A: Allocator + Copy> Engine<C, A> {
         let mut line = LineId { who, number: 0 };
         let CountedLine { number, client } = self.names.count(&line.who)?;
         line.number = number;
-        match rest {
-            Some(rest) => self.answer_rest(&line, client, rest, out),
-            None => refuse(out, &line, Refusal::Syntax),
-        }
+        self.answer_rest(&line, client, rest, out)
     }
 }

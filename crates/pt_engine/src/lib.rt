@@ -24,10 +24,10 @@ mod asked_lines;
 mod cut_lines;
 mod engine;
 mod fault;
+mod line_body;
 mod line_id;
 mod mark;
 mod names;
-mod said;
 mod telling;
 
 pub use engine::{ENTRIES_BETWEEN_SEALS, Engine};

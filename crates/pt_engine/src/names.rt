@@ -1,16 +1,16 @@
 ghost use Rattle.std.specs.Prelude.{◌≡◌, ◌<◌, ◌++◌, ◌^◌, ◌∷◌, [], suc, length, Some, None};
-ghost use Rattle.std.specs.Prelude.{OnOk, OnErr, IfOk, IfErr, IsSome};
+ghost use Rattle.std.specs.Prelude.{OnOk, OnErr, IfOk, IfErr, IfSome, IsSome};
 ghost use Rattle.std.specs.Bool.{OnTrue};
 ghost use Rattle.pt_engine.specs.Names.{client_in, lines_in, row_of};
 ghost use Rattle.pt_engine.specs.Places.{key_at};
 
 use crate::fault::ScriptFault;
 use http_server::Log;
+use indexmap::IndexMap;
 use pt_hints::{Hints, are_same};
 use pt_lines::{ClientName, Who};
 use pt_types::{ClientId, key_of};
 use std::alloc::{Allocator, Global};
-use std::collections::HashMap;
 use std::hash::{BuildHasherDefault, FoldHasher};
 use std::marker::Model;
 
@@ -31,46 +31,39 @@ pub struct CountedLine {
     pub client: Option<ClientId>,
 }
 
-type Rows<A> = Vec<(ClientName, Row), A>;
-
-type Places<A> = HashMap<ClientName, usize, BuildHasherDefault<FoldHasher>, A>;
+type Rows<A> = IndexMap<ClientName, Row, BuildHasherDefault<FoldHasher>, A>;
 
 // The number of lines that came of each client, and the number of each client that joined. A row is
 // found by a hint, if no other name with that hint came since. Otherwise it is found by the hash of
-// its name.
+// its name. By hashes alone each script takes 4 to 12 percent more instructions: 12 if one client
+// locks and unlocks one mutex.
 #[derive(Drop)]
 struct Counts<A: Allocator + Copy> {
     rows: Rows<A>,
-    // The index of each name's row.
-    places: Places<A>,
     hints: Hints<A>,
     star: u64,
     unknown: u64,
 }
 
 impl<A: Allocator + Copy> Model for Counts<A> {
-    ghost use Rattle.std.specs.Str.{bytes_eq};
     ghost use Rattle.pt_engine.specs.Names.{Counted};
-    ghost use Rattle.pt_engine.specs.Places.{ArePlaces};
 
     ghost Value = { Counted };
 
-    ghost view = { λ k. record { rows = k.rows.items; star = k.star; unknown = k.unknown } };
-
-    ghost invariant = { λ k. ArePlaces bytes_eq k.rows.items k.places.entries };
+    ghost view = { λ k. record { rows = k.rows.entries; star = k.star; unknown = k.unknown } };
 }
 
 /// The clients of a script: the number of lines that came of each, and the number of each client
 /// that joined.
 ///
 /// Contracts see which client each line belongs to, and the clients in the order of their joins.
-/// These two lists exist for proofs alone and take no memory.
+/// The former list exists for proofs alone and takes no memory.
 #[derive(Drop)]
 pub struct Names<A: Allocator + Copy = Global> {
     counts: Counts<A>,
     total: u64,
     seen: Log<Who, ()>,
-    joined: Log<ClientName, ClientId>,
+    joined: Vec<(ClientName, ClientId), A>,
 }
 
 impl<A: Allocator + Copy> Model for Names<A> {
@@ -86,8 +79,8 @@ impl<A: Allocator + Copy> Model for Names<A> {
 }
 
 // Returns the key of the name whose row is at an index, and the index.
-fn keyed(rows: &[(ClientName, Row)], index: usize) -> Option<(u64, usize)> {
-    let (name, _) = rows.get(index)?;
+fn keyed<A: Allocator + Copy>(rows: &Rows<A>, index: usize) -> Option<(u64, usize)> {
+    let (name, _) = rows.get_index(index)?;
     Some((key_of(name.as_bytes()), index))
 }
 
@@ -95,7 +88,7 @@ fn keyed(rows: &[(ClientName, Row)], index: usize) -> Option<(u64, usize)> {
 fn grow<A: Allocator + Copy>(hints: &mut Hints<A>, rows: &Rows<A>) -> Result<(), ScriptFault>
     ensures why { IfErr result (λ fault. fault ≡ ScriptFault.Memory) }
 {
-    match hints.grow_for(rows.len(), |index| keyed(rows.as_slice(), index)) {
+    match hints.grow_for(rows.len(), |index| keyed(rows, index)) {
         Ok(()) => Ok(()),
         Err(_) => Err(ScriptFault::Memory),
     }
@@ -103,10 +96,10 @@ fn grow<A: Allocator + Copy>(hints: &mut Hints<A>, rows: &Rows<A>) -> Result<(),
 
 // Returns whether the row at an index is this name's.
 #[inline(always)]
-fn is_at(rows: &[(ClientName, Row)], index: usize, name: &ClientName) -> bool
-    ensures { OnTrue result (key_at rows.now index ≡ Some name.now) }
+fn is_at<A: Allocator + Copy>(rows: &Rows<A>, index: usize, name: &ClientName) -> bool
+    ensures { OnTrue result (key_at rows.now.entries index ≡ Some name.now) }
 {
-    match rows.get(index) {
+    match rows.get_index(index) {
         Some((key, _)) => are_same(key.as_bytes(), name.as_bytes()),
         None => false,
     }
@@ -124,6 +117,22 @@ fn unnamed(number: u64) -> CountedLine
     }
 }
 
+// Adds a client with its name and its number.
+fn push_client<A: Allocator>(
+    joined: &mut Vec<(ClientName, ClientId), A>,
+    name: &ClientName,
+    client: ClientId,
+) -> Result<(), ScriptFault>
+    ensures ok { OnOk result (joined.new.items ≡ joined.old.items ++ (name.now, client) ∷ []) }
+    ensures err { OnErr result (joined.new.items ≡ joined.old.items) }
+    ensures why { IfErr result (λ fault. fault ≡ ScriptFault.Memory) }
+{
+    match joined.push((name.copied(), client)) {
+        Ok(()) => Ok(()),
+        Err(_) => Err(ScriptFault::Memory),
+    }
+}
+
 impl<A: Allocator + Copy> Counts<A> {
     ghost use Rattle.pt_engine.specs.Names.{client_counted, lines_counted, IsRaised, IsGiven};
     ghost use Rattle.pt_engine.specs.Names.{AreAlike};
@@ -135,26 +144,36 @@ impl<A: Allocator + Copy> Counts<A> {
         ensures alike { AreAlike self.old self.new }
         ensures why { IfErr result (λ fault. fault ≡ ScriptFault.Memory) }
     {
-        if self.rows.reserve(1).is_err() {
-            return Err(ScriptFault::Memory);
-        }
+        grow(&mut self.hints, &self.rows)?;
+        let index = self.rows.len();
         let row = Row {
             lines: 0,
             client: None,
         };
-        let index = self.rows.len();
-        match self.places.insert(name.copied(), index) {
+        match self.rows.insert(name.copied(), row) {
             Ok(_) => {
-                self.rows.push_reserved((name.copied(), row));
+                self.hints.set(key_of(name.as_bytes()), index);
                 Ok(index)
             }
             Err(_) => Err(ScriptFault::Memory),
         }
     }
 
-    // Returns the index of the row of a name whose row is not found by a hint. The row is found by
-    // the hash of the name, or made. It isn't inlined, since the rows of most lines are found by
-    // their hints.
+    // Returns the index to which the hint of a name leads, if the name's row is there.
+    #[inline(always)]
+    fn hinted(&self, name: &ClientName) -> Option<usize>
+        ensures { IfSome result (λ index. key_at self.now.rows index ≡ Some name.now) }
+    {
+        let index = self.hints.get(key_of(name.as_bytes())).unwrap_or(0);
+        if is_at(&self.rows, index, name) {
+            Some(index)
+        } else {
+            None
+        }
+    }
+
+    // Returns the index of the row of a name, which is found by the hash of the name, or made. It
+    // isn't inlined, since the rows of most lines are found by their hints.
     #[cold]
     #[inline(never)]
     fn look_up(&mut self, name: &ClientName) -> Result<usize, ScriptFault>
@@ -162,29 +181,13 @@ impl<A: Allocator + Copy> Counts<A> {
         ensures alike { AreAlike self.old self.new }
         ensures why { IfErr result (λ fault. fault ≡ ScriptFault.Memory) }
     {
-        let key = key_of(name.as_bytes());
-        if let Some(index) = self.places.get(name).copied() {
-            self.hints.set(key, index);
-            return Ok(index);
+        match self.rows.get_full(name) {
+            Some(found) => {
+                self.hints.set(key_of(name.as_bytes()), found.0);
+                Ok(found.0)
+            }
+            None => self.begin(name),
         }
-        grow(&mut self.hints, &self.rows)?;
-        let index = self.begin(name)?;
-        self.hints.set(key, index);
-        Ok(index)
-    }
-
-    // Returns the index of a name's row, which is made if there is none.
-    #[inline(always)]
-    fn index_of(&mut self, name: &ClientName) -> Result<usize, ScriptFault>
-        ensures at { IfOk result (λ index. key_at self.new.rows index ≡ Some name.now) }
-        ensures alike { AreAlike self.old self.new }
-        ensures why { IfErr result (λ fault. fault ≡ ScriptFault.Memory) }
-    {
-        let index = self.hints.get(key_of(name.as_bytes())).unwrap_or(0);
-        if is_at(self.rows.as_slice(), index, name) {
-            return Ok(index);
-        }
-        self.look_up(name)
     }
 
     // Counts a line of this name, whose row is at an index.
@@ -196,7 +199,7 @@ impl<A: Allocator + Copy> Counts<A> {
         ensures client { result.client ≡ client_in (row_of self.old.rows name.now) }
         ensures raised { IsRaised self.old (Who.Named name.now) self.new }
     {
-        let row = &mut self.rows[index].1;
+        let (_, row) = self.rows.pair_mut(index);
         row.lines += 1;
         CountedLine {
             number: row.lines,
@@ -215,7 +218,10 @@ impl<A: Allocator + Copy> Counts<A> {
         ensures err { OnErr result (AreAlike self.old self.new) }
         ensures why { IfErr result (λ fault. fault ≡ ScriptFault.Memory) }
     {
-        let index = self.index_of(name)?;
+        if let Some(index) = self.hinted(name) {
+            return Ok(self.count_at(index, name));
+        }
+        let index = self.look_up(name)?;
         Ok(self.count_at(index, name))
     }
 
@@ -246,8 +252,8 @@ impl<A: Allocator + Copy> Counts<A> {
     fn client_named(&self, name: &ClientName) -> Option<ClientId>
         ensures { result ≡ client_in (row_of self.now.rows name.now) }
     {
-        match self.places.get(name).copied() {
-            Some(index) => self.rows[index].1.client,
+        match self.rows.get(name) {
+            Some(row) => row.client,
             None => None,
         }
     }
@@ -257,9 +263,7 @@ impl<A: Allocator + Copy> Counts<A> {
         requires { IsSome (row_of self.old.rows name.now) }
         ensures { IsGiven self.old name.now client self.new }
     {
-        if let Some(index) = self.places.get(name).copied() {
-            self.rows[index].1.client = Some(client);
-        }
+        self.rows.get_mut(name).unwrap().client = Some(client);
     }
 }
 
@@ -272,8 +276,7 @@ impl<A: Allocator + Copy> Names<A> {
         ensures { result ≡ record { seen = []; clients = [] } }
     {
         let counts = Counts {
-            rows: Vec::new(alloc),
-            places: HashMap::new(alloc),
+            rows: IndexMap::new(alloc),
             hints: Hints::new(alloc),
             star: 0,
             unknown: 0,
@@ -282,7 +285,7 @@ impl<A: Allocator + Copy> Names<A> {
             counts,
             total: 0,
             seen: Log::new(),
-            joined: Log::new(),
+            joined: Vec::new(alloc),
         }
     }
 
@@ -321,17 +324,27 @@ impl<A: Allocator + Copy> Names<A> {
     }
 
     /// Joins a client that has sent a line, under its name and with this number. `*` and `?` never
-    /// join.
+    /// join. A refused growth is a fault and changes nothing.
     #[tactic(auto, using(crate::proofs::Rows::has_row, crate::proofs::Rows::joined_counted))]
-    pub fn join(&mut self, who: &Who, client: ClientId)
+    pub fn join(&mut self, who: &Who, client: ClientId) -> Result<(), ScriptFault>
         requires counted { 0 < lines_of_who self.old.seen who.now }
         requires first { number_of self.old.clients who.now ≡ None }
-        ensures { self.new
-            ≡ record self.old { clients = clients_joined who.now client self.old.clients } }
+        ensures ok { OnOk result (self.new
+            ≡ record self.old { clients = clients_joined who.now client self.old.clients }) }
+        ensures err { OnErr result (self.new ≡ self.old) }
+        ensures why { IfErr result (λ fault. fault ≡ ScriptFault.Memory) }
     {
         if let Who::Named(name) = who {
+            push_client(&mut self.joined, name, client)?;
             self.counts.give(name, client);
-            self.joined = self.joined.and(name, &client);
         }
+        Ok(())
+    }
+
+    /// Returns the clients in the order of their joins, each with its name and its number.
+    pub fn clients(&self) -> &[(ClientName, ClientId)]
+        ensures { result.now ≡ self.now.clients }
+    {
+        self.joined.as_slice()
     }
 }

@@ -1,4 +1,5 @@
-ghost use Rattle.std.specs.Prelude.{◌≡◌, ◌++◌, ◌∷◌, [], codes, decimal, OnOk, OnErr, IfErr};
+ghost use Rattle.std.specs.Prelude.{◌≡◌, ◌++◌, ◌∷◌, [], codes, decimal, OnOk, OnErr, IfOk};
+ghost use Rattle.std.specs.Prelude.{IfErr};
 ghost use Rattle.pt_types.specs.Limits.{second};
 ghost use Rattle.pt_entries.specs.EntryTexts.{aligned, applied, clock_word as clock_text};
 ghost use Rattle.pt_entries.specs.EntryTexts.{entry_text, placed_entry, reply_word as reply_text};
@@ -134,6 +135,20 @@ fn put_place<A: Allocator + Copy>(out: &mut Vec<u8, A>, place: u64) -> Result<()
     put(out, text)
 }
 
+// The number of bytes for which the buffer of an entry has memory at once.
+const ENTRY: usize = 128;
+
+// Creates a buffer for an entry.
+fn entry_buffer<A: Allocator + Copy>(alloc: A) -> Result<Vec<u8, A>, Refusal>
+    ensures ok { IfOk result (λ text. text.items ≡ []) }
+    ensures why { IfErr result (λ refusal. refusal ≡ Refusal.Enomem) }
+{
+    match Vec::with_capacity(alloc, ENTRY) {
+        Ok(text) => Ok(text),
+        Err(_) => Err(Refusal::Enomem),
+    }
+}
+
 /// Appends the text of an entry. Returns ENOMEM if a growth was refused. Nothing is appended then.
 /// [profile]
 pub fn write_entry<A: Allocator + Copy>(out: &mut Vec<u8, A>, entry: &Entry) -> Result<(), Refusal>
@@ -141,7 +156,7 @@ pub fn write_entry<A: Allocator + Copy>(out: &mut Vec<u8, A>, entry: &Entry) -> 
     ensures err { OnErr result (out.new.items ≡ out.old.items) }
     ensures why { IfErr result (λ refusal. refusal ≡ Refusal.Enomem) }
 {
-    let mut text = Vec::new(*out.allocator());
+    let mut text = entry_buffer(*out.allocator())?;
     put_entry(&mut text, entry)?;
     put(out, &text)
 }
@@ -157,7 +172,7 @@ pub fn write_placed_entry<A: Allocator + Copy>(
     ensures err { OnErr result (out.new.items ≡ out.old.items) }
     ensures why { IfErr result (λ refusal. refusal ≡ Refusal.Enomem) }
 {
-    let mut text = Vec::new(*out.allocator());
+    let mut text = entry_buffer(*out.allocator())?;
     put(&mut text, b" ")?;
     put_place(&mut text, place)?;
     put(&mut text, b"  ")?;

@@ -14,6 +14,7 @@ mod calls;
 mod entries;
 mod laws;
 
+pub use appending::{put, put_number, put_number_word};
 pub use calls::write_call;
 pub use entries::{write_entry, write_placed_entry};
 pub use laws::{law_call_texts_are_read, law_entry_texts_differ};

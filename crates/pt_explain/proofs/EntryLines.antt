@@ -1,11 +1,11 @@
 -- The lines of entries, from one place to the next.
-use Rattle.std.proofs.Common.{◌≡◌, ◌≤◌, ◌+◌, ◌-◌, ◌∙◌, ℕ, zero, suc, List, [], ◌∷◌, ◌++◌, Some}
-use Rattle.std.proofs.Common.{None, codes, drop, length, slice_get, refl, ap, sym, append_assoc}
-use Rattle.std.proofs.Common.{arith}
+use Rattle.std.proofs.Common.{◌≡◌, ◌≤◌, ◌<◌, ◌+◌, ◌-◌, ◌∙◌, ℕ, zero, suc, List, [], ◌∷◌, ◌++◌}
+use Rattle.std.proofs.Common.{Some, None, drop, length, slice_get, refl, ap, sym, append_assoc}
+use Rattle.std.proofs.Common.{length-append, arith}
 use Rattle.std.proofs.lemmas.List.{append-nil}
 use Rattle.pt_model.specs.declared.entry.Entry.{Entry}
-use Rattle.pt_explain.specs.Entries.{entry_rows, refused_row}
-use Rattle.pt_explain.specs.Rows.{row}
+use Rattle.pt_explain.specs.Entries.{entry_rows, refused_row, refused_text}
+use Rattle.pt_explain.specs.Rows.{right, row}
 
 -- no entry is left from an index past the end
 pub none_left : (es : List Entry) (i : ℕ) → slice_get es i ≡ None → drop i es ≡ []
@@ -29,19 +29,44 @@ next_left [] (suc n) x e = absurd cc
 next_left (y ∷ ys) zero x e = cc
 next_left (y ∷ ys) (suc n) x e = next_left ys n x e
 
--- if an entry is left, no refusal has a row
-pub refused_not :
-    (r : List ℕ × List ℕ) (es : List Entry) (i : ℕ) {x : Entry} (out : List ℕ)
-    → slice_get es i ≡ Some x → out ≡ out ++ refused_row r (drop i es)
-refused_not r es i {x} out here =
-    sym (append-nil out) ∙ ap (λ l. out ++ refused_row r l) (sym (next_left es i x here))
+-- a row, of which the left was appended first
+pub row_whole :
+    (old mid new text : List ℕ) (width : ℕ) (r : List ℕ × List ℕ) → mid ≡ old ++ text
+    → width + length old ≡ length mid → new ≡ mid ++ right width r → new ≡ old ++ row text r
+row_whole old mid new text width r left long added =
+    let all = ap length left ∙ length-append old text in
+    let wide : width ≡ length text = omega (arith, long, all) in
+    added
+    ∙ ap (λ m. m ++ right width r) left
+    ∙ append_assoc old text (right width r)
+    ∙ ap (λ n. old ++ (text ++ right n r)) wide
 
--- if none is left, the row of the refusal is there
-pub refused_there :
-    (r : List ℕ × List ℕ) (es : List Entry) (i : ℕ) (out new : List ℕ) → slice_get es i ≡ None
-    → new ≡ out ++ row (codes "       refused") r → new ≡ out ++ refused_row r (drop i es)
-refused_there r es i out new none added =
-    added ∙ ap (λ l. out ++ refused_row r l) (sym (none_left es i none))
+-- if an entry is left, no refusal has a row
+pub refused_not : (r : List ℕ × List ℕ) (es : List Entry) (i : ℕ) → i < length es
+    → refused_row r (drop i es) ≡ []
+refused_not r [] zero lt = absurd (omega arith)
+refused_not r [] (suc i) lt = absurd (omega arith)
+refused_not r (x ∷ xs) zero lt = refl
+refused_not r (x ∷ xs) (suc i) lt = refused_not r xs i (omega arith)
+
+-- the rows of entries, if one is left
+pub rows_added :
+    (refused : List ℕ × List ℕ) (t : ℕ → Entry → List ℕ) (at : ℕ) (es : List Entry) (i : ℕ)
+    (out new : List ℕ) → i < length es → new ≡ out ++ entry_rows t at (drop i es)
+    → new ≡ out ++ (refused_row refused (drop i es) ++ entry_rows t at (drop i es))
+rows_added refused t at es i out new within added =
+    added
+    ∙ ap (λ r. out ++ (r ++ entry_rows t at (drop i es))) (sym (refused_not refused es i within))
+
+-- the row of a refusal, if no entry is left
+pub rows_refused :
+    (refused : List ℕ × List ℕ) (t : ℕ → Entry → List ℕ) (at : ℕ) (es : List Entry) (i : ℕ)
+    (out new : List ℕ) → length es ≤ i → new ≡ out ++ row refused_text refused
+    → new ≡ out ++ (refused_row refused (drop i es) ++ entry_rows t at (drop i es))
+rows_refused refused t at es i out new past added =
+    added
+    ∙ ap (λ r. out ++ r) (sym (append-nil (row refused_text refused)))
+    ∙ ap (λ l. out ++ (refused_row refused l ++ entry_rows t at l)) (sym (none_past es i past))
 
 -- after the line of the entry at a place, the lines from the next place on are left
 pub line_next :

@@ -6,7 +6,7 @@ mod Saying
 mod CallsFound
 -- Pairs: a pair is known by its parts
 mod Pairs
--- Quotes: answers after `> `, byte after byte
+-- Quotes: answers after `> `, line after line
 mod Quotes
 -- Tellings: explanations of lines, one after another, and how many lines there are
 mod Tellings

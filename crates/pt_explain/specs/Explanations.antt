@@ -16,6 +16,7 @@ use Rattle.pt_engine.specs.Says.{Says, refusal_of_event}
 use Rattle.pt_script.specs.Tellings.{Telling}
 use Rattle.pt_rules.specs.EventRules.{event_reason, refusal_reason}
 use Rattle.pt_explain.specs.Entries.{entry_row, entry_rows, refused_row}
+use Rattle.pt_explain.specs.ObjectRows.{object_rows}
 
 -- answers as a trace has them, each after `> `; the flag says whether a line begins here
 -- [profile]
@@ -57,23 +58,28 @@ abbrev pub refused_reason : Script → Result Event Refusal → List ℕ × List
 refused_reason s (Err why) = refusal_reason why
 refused_reason s (Ok event) = refusal_reason (unwrap_or (refusal_of_event s event) Enomem)
 
+-- the rows of what came of a line: the entries from this place on, each with its place and why it
+-- was added, the first for the event's own reason; or the refusal, if there are none
+abbrev pub effect_rows : (refused own : List ℕ × List ℕ) → Script → ℕ → List ℕ
+effect_rows refused own next at =
+    refused_row refused (entries_since next at)
+    ++ entry_rows (entry_row own at (core_of next)) at (entries_since next at)
+
 -- the rows of what a line asked for: the entries from this place on, each with its place and why it
 -- was added, or why the line was refused
 abbrev pub rows_from : Script → Result Event Refusal → Script → ℕ → List ℕ
-rows_from s asked next at =
-    refused_row (refused_reason s asked) (entries_since next at)
-    ++ entry_rows (entry_row (own_reason s asked) at (core_of next)) at (entries_since next at)
+rows_from s asked next at = effect_rows (refused_reason s asked) (own_reason s asked) next at
 
 -- what explains a line: the line, the entries that it added to the history, each with its place and
--- why it was added, or why the line was refused, the answers that a script writes for it, and an
--- empty line
+-- why it was added, or why the line was refused, the answers that a script writes for it, what the
+-- objects that its call names are doing after it, and an empty line
 pub record Explains (s : Script) (cut : Cut) (next : Script) (text : List ℕ) : Type 0 where
   pub answers : List ℕ
   pub says : Says s (script_of cut) next answers
   pub written :
       text
       ≡ echo cut ++ rows_from s (event_of_line s (script_of cut)) next (next_place s)
-      ++ quoted true answers ++ 10 ∷ []
+      ++ quoted true answers ++ object_rows (core_of next) next.clients (next_place s) ++ 10 ∷ []
 
 -- what explains lines, one after another
 abbrev pub explains : Telling

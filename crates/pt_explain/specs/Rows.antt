@@ -1,6 +1,6 @@
 -- Rows: the rows of an explanation: what is on the left, the reason from column 37 on, and its
 -- source, which ends at column 100.
-use Rattle.std.specs.Prelude.{ℕ, ◌-◌, ◌++◌, List, [], ◌∷◌, codes, length, max, min, nat_le, take}
+use Rattle.std.specs.Prelude.{ℕ, ◌-◌, ◌++◌, List, ◌∷◌, codes, length, max, min, nat_le, take}
 use Rattle.std.specs.Prelude.{if◌then◌else◌}
 
 -- 50 spaces
@@ -24,9 +24,14 @@ room_before width reason source = 98 - width - margin width - reason - source
 abbrev pub gap : (room source : ℕ) → List ℕ
 gap room source = if nat_le 2 room then spaces room else 10 ∷ spaces (98 - source)
 
+-- what follows what is on the left, which has this width: a reason, and its source in brackets
+-- [profile]
+abbrev pub right : ℕ → List ℕ × List ℕ → List ℕ
+right width reason =
+    spaces (margin width) ++ reason.0
+    ++ gap (room_before width (length reason.0) (length reason.1)) (length reason.1)
+    ++ codes "[" ++ reason.1 ++ codes "]\n"
+
 -- a row: what is on the left, a reason, and its source in brackets  [profile]
 abbrev pub row : List ℕ → List ℕ × List ℕ → List ℕ
-row text reason =
-    text ++ spaces (margin (length text)) ++ reason.0
-    ++ gap (room_before (length text) (length reason.0) (length reason.1)) (length reason.1)
-    ++ codes "[" ++ reason.1 ++ codes "]" ++ 10 ∷ []
+row text reason = text ++ right (length text) reason

@@ -1,27 +1,14 @@
 //! The parts of an explanation, each appended to a buffer.
 
-ghost use Rattle.std.specs.Prelude.{◌≡◌, ◌++◌, ◌∷◌, [], true, OnOk, IfOk, IfErr};
+ghost use Rattle.std.specs.Prelude.{◌≡◌, ◌≤◌, ◌<◌, ◌++◌, ◌∷◌, [], codes, drop, length, take};
+ghost use Rattle.std.specs.Prelude.{true, OnOk, IfErr};
 ghost use Rattle.pt_explain.specs.Explanations.{begins_row as is_row_byte, echo, quoted};
 ghost use Rattle.pt_explain.specs.Explanations.{mark as mark_of};
 
+use memchr::memchr;
 use pt_engine::ScriptFault;
 use pt_lines::Cut;
 use std::alloc::Allocator;
-
-/// The number of bytes for which the buffer of a row has memory at once. Growing it in steps took a
-/// sixth of an explanation's instructions.
-const ROW: usize = 256;
-
-/// Creates a buffer for a row.
-pub fn row_buffer<A: Allocator + Copy>(alloc: A) -> Result<Vec<u8, A>, ScriptFault>
-    ensures ok { IfOk result (λ row. row.items ≡ []) }
-    ensures why { IfErr result (λ fault. fault ≡ ScriptFault.Memory) }
-{
-    match Vec::with_capacity(alloc, ROW) {
-        Ok(row) => Ok(row),
-        Err(_) => Err(ScriptFault::Memory),
-    }
-}
 
 /// Appends bytes.
 pub fn put<A: Allocator + Copy>(out: &mut Vec<u8, A>, bytes: &[u8]) -> Result<(), ScriptFault>
@@ -78,6 +65,19 @@ pub fn put_line<A: Allocator + Copy>(out: &mut Vec<u8, A>, cut: &Cut) -> Result<
     put_byte(out, b'\n')
 }
 
+// Returns the length of the first answer, with its newline.
+fn first_len(answers: &[u8]) -> usize
+    ensures within { result ≤ length answers.now }
+    ensures some { 0 < length answers.now → 0 < result }
+    ensures line { 0 < length answers.now → quoted true answers.now
+        ≡ codes "> " ++ (take result answers.now ++ quoted true (drop result answers.now)) }
+{
+    match memchr(b'\n', answers) {
+        Some(end) => end + 1,
+        None => answers.len(),
+    }
+}
+
 /// Appends answers as a trace has them, each after `> `.
 pub fn put_quoted<A: Allocator + Copy>(
     out: &mut Vec<u8, A>,
@@ -86,13 +86,12 @@ pub fn put_quoted<A: Allocator + Copy>(
     ensures ok { OnOk result (out.new.items ≡ out.old.items ++ quoted true answers.now) }
     ensures why { IfErr result (λ fault. fault ≡ ScriptFault.Memory) }
 {
-    let mut begins = true;
-    for byte in answers {
-        if begins {
-            put(out, b"> ")?;
-        }
-        put_byte(out, *byte)?;
-        begins = *byte == b'\n';
+    let mut rest = answers;
+    while !rest.is_empty() {
+        let len = first_len(rest);
+        put(out, b"> ")?;
+        put(out, &rest[..len])?;
+        rest = &rest[len..];
     }
     Ok(())
 }

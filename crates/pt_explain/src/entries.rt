@@ -1,15 +1,15 @@
 //! The entries that a line added, each with its reason.
 
-ghost use Rattle.std.specs.Prelude.{◌≡◌, ◌≤◌, ◌==◌, ◌-◌, ◌++◌, OnOk, IfOk, IfErr};
+ghost use Rattle.std.specs.Prelude.{◌≡◌, ◌≤◌, ◌==◌, ◌-◌, ◌++◌, OnOk, IfErr};
 ghost use Rattle.pt_legal.specs.Cores.{shown};
 ghost use Rattle.pt_entries.specs.EntryTexts.{placed_entry};
 ghost use Rattle.pt_explain.specs.Entries.{call_at as call_there, call_in, entries_from, entry_row};
 ghost use Rattle.pt_explain.specs.Entries.{entry_rows, follows_by, place_of_call as place_meant};
-ghost use Rattle.pt_explain.specs.Entries.{reason_at as reason_there, refused_row};
+ghost use Rattle.pt_explain.specs.Entries.{reason_at as reason_there, refused_text};
 ghost use Rattle.pt_explain.specs.Rows.{row};
 
-use crate::appending::row_buffer;
-use crate::rows::put_row;
+use crate::appending::put;
+use crate::rows::put_reason;
 use pt_engine::ScriptFault;
 use pt_entries::write_placed_entry;
 use pt_legal::LegalHistory;
@@ -28,8 +28,8 @@ fn call_of(entry: Option<Entry>) -> Option<Call>
     }
 }
 
-// Returns the call at a place, if its entry came since the history was last sealed.
-fn call_at<C: LegalHistory>(core: &C, place: u64) -> Option<Call>
+/// Returns the call at a place, if its entry came since the history was last sealed.
+pub fn call_at<C: LegalHistory>(core: &C, place: u64) -> Option<Call>
     ensures { result ≡ call_there (shown (C.seen core.now)) place }
 {
     call_of(core.entry(place))
@@ -84,18 +84,17 @@ fn reason_at<C: LegalHistory>(
     }
 }
 
-// Returns an entry with its place, as a row has it on the left.
-fn left_text<A: Allocator + Copy>(
-    alloc: A,
+// Appends an entry with its place, as a row has it on the left.
+fn put_left<A: Allocator + Copy>(
+    out: &mut Vec<u8, A>,
     place: u64,
     entry: &Entry,
-) -> Result<Vec<u8, A>, ScriptFault>
-    ensures ok { IfOk result (λ text. text.items ≡ placed_entry place entry.now) }
+) -> Result<(), ScriptFault>
+    ensures ok { OnOk result (out.new.items ≡ out.old.items ++ placed_entry place entry.now) }
     ensures why { IfErr result (λ fault. fault ≡ ScriptFault.Memory) }
 {
-    let mut text = row_buffer(alloc)?;
-    match write_placed_entry(&mut text, place, entry) {
-        Ok(()) => Ok(text),
+    match write_placed_entry(out, place, entry) {
+        Ok(()) => Ok(()),
         Err(_) => Err(ScriptFault::Memory),
     }
 }
@@ -111,8 +110,10 @@ fn put_entry<A: Allocator + Copy>(
         ++ row (placed_entry place entry.now) (reason.now.words.now, reason.now.source.now)) }
     ensures why { IfErr result (λ fault. fault ≡ ScriptFault.Memory) }
 {
-    let text = left_text(*out.allocator(), place, entry)?;
-    put_row(out, &text, reason)
+    let start = out.len();
+    put_left(out, place, entry)?;
+    let width = out.len() - start;
+    put_reason(out, width, reason)
 }
 
 /// Appends the rows of a core's entries from a place on, and nothing else. The first is the own
@@ -139,21 +140,16 @@ pub fn put_entries<C: LegalHistory, A: Allocator + Copy>(
     Ok(())
 }
 
-/// Appends the row of a refusal for this reason, if no entry was added from a place on.  [profile]
-pub fn put_refusal<C: LegalHistory, A: Allocator + Copy>(
+/// Appends the row of a refusal for this reason.  [profile]
+pub fn put_refusal<A: Allocator + Copy>(
     out: &mut Vec<u8, A>,
-    core: &C,
-    from: u64,
     reason: &Reason,
 ) -> Result<(), ScriptFault>
-    requires { (shown (C.seen core.now)).start.at ≤ from }
     ensures ok { OnOk result (out.new.items ≡ out.old.items
-        ++ refused_row (reason.now.words.now, reason.now.source.now)
-        (entries_from (C.seen core.now) from)) }
+        ++ row refused_text (reason.now.words.now, reason.now.source.now)) }
     ensures why { IfErr result (λ fault. fault ≡ ScriptFault.Memory) }
 {
-    match core.entry(from) {
-        Some(_) => Ok(()),
-        None => put_row(out, b"       refused", reason),
-    }
+    let text = b"       refused";
+    put(out, text)?;
+    put_reason(out, text.len(), reason)
 }

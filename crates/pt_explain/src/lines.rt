@@ -8,19 +8,23 @@ ghost use Rattle.pt_script.specs.Tellings.{AreTold, IsTold};
 ghost use Rattle.pt_explain.specs.Explanations.{Explains, explains};
 
 use crate::appending::{put_byte, put_line, put_quoted};
-use crate::entries::{put_entries, put_refusal};
-use crate::reasons::{own_reason, refused_reason};
+use crate::effects::put_effects;
+use crate::objects::put_objects;
+use crate::reading::{copy_line, read_line};
+use crate::reasons::own_reason;
 use pt_engine::{Engine, ScriptFault};
-use pt_lines::{Cut, Cutter, ScriptLine};
+use pt_lines::{Cut, Cutter};
 use pt_readable::ReadableHistory;
 use std::alloc::Allocator;
 
 // Answers a line, and appends what explains it: the line, the entries that it added and why, or why
-// it was refused, and its answers. A refused growth for which the line is not answered ENOMEM is a
-// fault.
+// it was refused, its answers, and what the objects that it names are doing after it. The answers
+// are put together in `answers`, a buffer for one line after another. A refused growth for which
+// the line is not answered ENOMEM is a fault.
 fn explain_line<C: ReadableHistory, A: Allocator + Copy>(
     engine: &mut Engine<C, A>,
     cut: &Cut,
+    answers: &mut Vec<u8, A>,
     out: &mut Vec<u8, A>,
 ) -> Result<(), ScriptFault>
     requires { length engine.old.seen < 2 ^ 53 }
@@ -29,15 +33,15 @@ fn explain_line<C: ReadableHistory, A: Allocator + Copy>(
     ensures why { IfErr result (λ fault. fault ≡ ScriptFault.Memory) }
 {
     let place = engine.entries();
-    let asked = engine.event_of(ScriptLine::of(cut));
+    let line = read_line(cut);
+    let asked = engine.event_of(copy_line(&line));
     let own = own_reason(engine, &asked);
-    let refused = refused_reason(engine, &asked);
-    let mut answers = Vec::new(*out.allocator());
-    engine.answer(ScriptLine::of(cut), &mut answers)?;
+    answers.clear();
+    engine.answer(line, answers)?;
     put_line(out, cut)?;
-    put_refusal(out, engine.core(), place, &refused)?;
-    put_entries(out, engine.core(), place, &own)?;
-    put_quoted(out, &answers)?;
+    put_effects(out, engine, &asked, place, &own)?;
+    put_quoted(out, answers)?;
+    put_objects(out, engine.core(), engine.clients(), place)?;
     put_byte(out, b'\n')
 }
 
@@ -45,6 +49,7 @@ fn explain_line<C: ReadableHistory, A: Allocator + Copy>(
 fn explain_next<C: ReadableHistory, A: Allocator + Copy>(
     engine: &mut Engine<C, A>,
     cutter: &mut Cutter<A>,
+    answers: &mut Vec<u8, A>,
     out: &mut Vec<u8, A>,
 ) -> Result<bool, ScriptFault>
     requires { length engine.old.seen < 2 ^ 53 }
@@ -57,7 +62,7 @@ fn explain_next<C: ReadableHistory, A: Allocator + Copy>(
 {
     match cutter.next_line() {
         Some(cut) => {
-            explain_line(engine, &cut, out)?;
+            explain_line(engine, &cut, answers, out)?;
             Ok(true)
         }
         None => Ok(false),
@@ -76,7 +81,8 @@ pub fn explain_all<C: ReadableHistory, A: Allocator + Copy>(
     ensures begun { OnOk result (IsBegun cutter.new) }
     ensures why { IfErr result (λ fault. fault ≡ ScriptFault.Memory) }
 {
-    while explain_next(engine, cutter, out)? {}
+    let mut answers = Vec::new(*out.allocator());
+    while explain_next(engine, cutter, &mut answers, out)? {}
     Ok(())
 }
 
@@ -93,7 +99,7 @@ pub fn explain_last<C: ReadableHistory, A: Allocator + Copy>(
     ensures why { IfErr result (λ fault. fault ≡ ScriptFault.Memory) }
 {
     match cutter.finish() {
-        Some(cut) => explain_line(engine, &cut, out),
+        Some(cut) => explain_line(engine, &cut, &mut Vec::new(*out.allocator()), out),
         None => Ok(()),
     }
 }

@@ -1,9 +1,9 @@
 //! The rows of an explanation.
 
 ghost use Rattle.std.specs.Prelude.{◌≡◌, ◌++◌, length, OnOk, IfErr};
-ghost use Rattle.pt_explain.specs.Rows.{gap, margin as margin_meant, room_before, row, spaces};
+ghost use Rattle.pt_explain.specs.Rows.{gap, margin as margin_meant, right, room_before, spaces};
 
-use crate::appending::{put, put_byte, row_buffer};
+use crate::appending::put;
 use pt_engine::ScriptFault;
 use pt_rules::Reason;
 use std::alloc::Allocator;
@@ -14,11 +14,11 @@ fn put_spaces<A: Allocator + Copy>(out: &mut Vec<u8, A>, n: usize) -> Result<(),
     ensures why { IfErr result (λ fault. fault ≡ ScriptFault.Memory) }
 {
     let blank = b"                                                  ";
-    let rest = n.saturating_sub(50);
-    let mut text = row_buffer(*out.allocator())?;
-    put(&mut text, &blank[..n.min(50)])?;
-    put(&mut text, &blank[..rest.min(50)])?;
-    put(out, &text)
+    if n <= 50 {
+        return put(out, &blank[..n]);
+    }
+    put(out, blank)?;
+    put(out, &blank[..(n - 50).min(50)])
 }
 
 // Returns how many spaces are after what is on the left, which has this width.
@@ -52,31 +52,25 @@ fn put_gap<A: Allocator + Copy>(
     if room >= 2 {
         return put_spaces(out, room);
     }
-    let mut text = row_buffer(*out.allocator())?;
-    put(&mut text, b"\n")?;
-    put_spaces(&mut text, 98usize.saturating_sub(source))?;
-    put(out, &text)
+    put(out, b"\n")?;
+    put_spaces(out, 98usize.saturating_sub(source))
 }
 
-/// Appends a row: what is on the left, a reason, and its source.  [profile]
-pub fn put_row<A: Allocator + Copy>(
+/// Appends what follows the left of a row, which has this width: a reason, and its source.
+/// [profile]
+pub fn put_reason<A: Allocator + Copy>(
     out: &mut Vec<u8, A>,
-    text: &[u8],
+    width: usize,
     reason: &Reason,
 ) -> Result<(), ScriptFault>
     ensures ok { OnOk result (out.new.items ≡ out.old.items
-        ++ row text.now (reason.now.words.now, reason.now.source.now)) }
+        ++ right width (reason.now.words.now, reason.now.source.now)) }
     ensures why { IfErr result (λ fault. fault ≡ ScriptFault.Memory) }
 {
-    let width = text.len();
-    let mut line = row_buffer(*out.allocator())?;
-    put(&mut line, text)?;
-    put_spaces(&mut line, margin(width))?;
-    put(&mut line, reason.words)?;
-    put_gap(&mut line, room(width, reason), reason.source.len())?;
-    put(&mut line, b"[")?;
-    put(&mut line, reason.source)?;
-    put(&mut line, b"]")?;
-    put_byte(&mut line, b'\n')?;
-    put(out, &line)
+    put_spaces(out, margin(width))?;
+    put(out, reason.words)?;
+    put_gap(out, room(width, reason), reason.source.len())?;
+    put(out, b"[")?;
+    put(out, reason.source)?;
+    put(out, b"]\n")
 }

@@ -22,12 +22,13 @@ use std::alloc::Allocator;
 /// The most bytes that are read at once.
 const PIECE: usize = 4096;
 
-// Takes in a piece of the input, and writes what explains the lines that end in it.
+// Takes in a piece of the input, and writes what explains the lines that end in it. That is put
+// together in `out`, a buffer for one piece after another.
 fn take_in<C: ReadableHistory, W: Sink, A: Allocator + Copy>(
-    alloc: A,
     engine: &mut Engine<C, A>,
     cutter: &mut Cutter<A>,
     piece: &[u8],
+    out: &mut Vec<u8, A>,
     writer: &mut W,
 ) -> Result<(), ScriptFault>
     requires working { W.failures writer.old ≡ 0 }
@@ -50,9 +51,9 @@ fn take_in<C: ReadableHistory, W: Sink, A: Allocator + Copy>(
     let Ok(()) = cutter.feed(piece) else {
         return Err(ScriptFault::Memory);
     };
-    let mut out = Vec::new(alloc);
-    explain_all(engine, cutter, &mut out)?;
-    deliver(writer, &out)?;
+    out.clear();
+    explain_all(engine, cutter, out)?;
+    deliver(writer, out)?;
     Ok(())
 }
 
@@ -119,6 +120,7 @@ pub fn explain_within<C: ReadableHistory, R: Source, W: Sink, A: Allocator + Cop
 {
     let mut cutter = Cutter::new(alloc);
     let mut piece = [0u8; PIECE];
+    let mut out = Vec::new(alloc);
     for _ in 0..reads {
         let Ok(n) = reader.read(&mut piece) else {
             return Err(ScriptFault::Read);
@@ -126,7 +128,7 @@ pub fn explain_within<C: ReadableHistory, R: Source, W: Sink, A: Allocator + Cop
         if n == 0 {
             return finish(alloc, engine, cutter, writer);
         }
-        take_in(alloc, engine, &mut cutter, &piece[..n], writer)?;
+        take_in(engine, &mut cutter, &piece[..n], &mut out, writer)?;
     }
     Err(ScriptFault::Read)
 }

@@ -9,11 +9,12 @@ use Rattle.pt_hub.specs.declared.pass.Receipt.{Receipt}
 use Rattle.pt_hub.specs.declared.pass.Tick.{Tick}
 
 -- a client's number, its priority, what it saw of its Join, and its calls with the answers that it
--- took
+-- took: those whose receipts were discarded, and then those whose receipts it has
 pub record PassView : Type 0 where
   pub client : ℕ
   pub priority : ℕ
   pub seen : Option SeenView
+  pub discarded : List Receipt
   pub receipts : List Receipt
 
 -- what a client leaves: its pass, the place of its Death, and the number of Deaths that this added,
@@ -22,14 +23,20 @@ pub record LeftView : Type 0 where
   pub client : ℕ
   pub priority : ℕ
   pub joined : Option SeenView
+  pub discarded : List Receipt
   pub receipts : List Receipt
   pub died_at : ℕ
   pub seen : Option SeenView
   pub deaths : ℕ
 
--- the moments that a clock submitted
+-- the moments that a clock submitted: those that were discarded, and then those that it has
 pub record ClockView : Type 0 where
+  pub discarded : List Tick
   pub moments : List Tick
+
+-- a clock that has submitted no moment
+abbrev pub new_clock : ClockView
+new_clock = record { discarded = []; moments = [] }
 
 -- what was seen, if anything, is the client's own entry at this place, and this is its event
 abbrev pub IsOwn : ℕ → ℕ → Event → Option SeenView → Type 0
@@ -65,19 +72,15 @@ pub record IsDeathOf (c : ℕ) (rs : List Receipt) (j : ℕ) (o : Option SeenVie
   pub own : IsOwn c j (event.Death c) o
   pub last : IfSome o (λ s. last_place c rs < j)
 
--- the number of outer entries that a pass added: its Join and its Calls
-abbrev pub events_of_pass : PassView → ℕ
-events_of_pass p = 1 + length p.receipts
-
--- the number of outer entries of a client that has left: its Join, its Calls and its Death, if it
--- added one
+-- the number of outer entries that a client shows when it has left: its Join, the Calls of its
+-- receipts and its Death, if it added one
 abbrev pub events_of_left : LeftView → ℕ
 events_of_left l = 1 + l.deaths + length l.receipts
 
--- the number of outer entries that a clock added
+-- the number of outer entries that a clock shows: those of the moments that it has
 abbrev pub events_of_clock : ClockView → ℕ
 events_of_clock c = length c.moments
 
--- the number of outer entries that these clients and clocks added
+-- the number of outer entries that these clients and clocks show
 abbrev pub events_found : List LeftView → List ClockView → ℕ
 events_found ls cs = sum_by events_of_left ls + sum_by events_of_clock cs

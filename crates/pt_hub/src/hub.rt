@@ -1,29 +1,28 @@
 //! The value that the lock guards.
 
 ghost use Rattle.std.specs.Prelude.{◌≡◌, ◌+◌, ◌<◌, ◌≤◌, ◌^◌, ◌↔◌, ◌≢◌, ◌⊎◌, ◌∷◌, ◌++◌, ℕ, [], Some};
-ghost use Rattle.std.specs.Prelude.{None, false, true, length, option_map};
-ghost use Rattle.std.specs.Prelude.{slice_get, IfOk, IfErr, IfSome, IfNone, OnOk, OnErr};
+ghost use Rattle.std.specs.Prelude.{None, false, true, option_map};
+ghost use Rattle.std.specs.Prelude.{IfOk, IfErr, IfSome, IfNone, OnOk, OnErr};
 ghost use Rattle.std.specs.Map.{lookup};
 ghost use Rattle.pt_types.specs.Times.{deadline_nanos, is_bad_deadline};
 ghost use Rattle.pt_model.specs.declared.entry.Event.TheVariants as event;
 ghost use Rattle.pt_model.specs.Searches.{Each};
 ghost use Rattle.pt_model.specs.Clients.{is_alive};
-ghost use Rattle.pt_model.specs.Queries.{answers_behind};
 ghost use Rattle.pt_model.specs.Queries.{least_deadline as least_deadline_in};
 ghost use Rattle.pt_model.specs.Room.{refusal_with_seals};
 ghost use Rattle.pt_model.specs.Legal.{LegalBehind, events_of};
 ghost use Rattle.pt_legal.specs.Cores.{IsEmpty, past, shown};
-ghost use Rattle.pt_legal.specs.Replies.{told_of};
 ghost use Rattle.pt_legal.specs.Sealing.{seal_refusal};
-ghost use Rattle.pt_hub.specs.Desks.{IsHeld, IsRefusedAs, kept, one_if, seen_at};
+ghost use Rattle.pt_hub.specs.Desks.{IsHeld, IsRefusedAs, kept, one_if};
 ghost use Rattle.pt_hub.specs.Hubs.{Joins, Ticks, Seals, Dies, next_place};
 ghost use Rattle.pt_hub.specs.Hubs.{outer_count, has_ended, Opens, IsNotOpened, EndsInput, Closes};
 ghost use Rattle.pt_hub.specs.Hubs.{Fits};
-ghost use Rattle.pt_hub.specs.Passes.{events_found};
+ghost use Rattle.pt_hub.specs.Passes.{events_found, new_clock};
 ghost use Rattle.pt_hub.specs.Closing.{Holds, IfForked, IsCloseFault, IsHonest};
 
 use crate::closing::{CloseFault, CloseRefused, Closed, clock_events, left_events};
 use crate::desk::Desk;
+use crate::discarded::Discarded;
 use crate::forks::least_fork;
 use crate::honesty::law_all_honest;
 use crate::marks;
@@ -32,8 +31,7 @@ use crate::pass::{ClockPass, Left, Pass, Tick};
 use crate::receipts::seen_after;
 use crate::tally::Tally;
 use pt_bells::SessionId;
-use pt_cells::Seen;
-use pt_legal::{LegalHistory, Reply};
+use pt_legal::LegalHistory;
 use pt_model::Event;
 use pt_types::{ClientId, Clock, Deadline, Moment, Priority, Refusal};
 use std::alloc::{Allocator, Global};
@@ -103,7 +101,7 @@ impl<C: LegalHistory, L: Ledger, A: Allocator + Copy> Hub<C, L, A> {
         ensures core { result.0.desk.core ≡ record { core = C.seen core; cells = [] } }
         ensures hub { (result.0.desk.accounts ≡ []) × (result.0.marks ≡ [])
             × (result.0.opened ≡ 0) × (result.0.booked ≡ 0) }
-        ensures clock { result.1.moments ≡ [] }
+        ensures clock { result.1 ≡ new_clock }
     {
         let desk = Desk::new(core, alloc, heap);
         let mut tally = Tally::open(blank);
@@ -115,11 +113,7 @@ impl<C: LegalHistory, L: Ledger, A: Allocator + Copy> Hub<C, L, A> {
             tally,
             alloc,
         };
-        let clock = ClockPass {
-            moments: Vec::new(alloc),
-            share,
-        };
-        (hub, clock)
+        (hub, ClockPass::new(share, alloc))
     }
 
     /// Joins a client, and returns its pass. The history is sealed first if the join needs the
@@ -136,10 +130,12 @@ impl<C: LegalHistory, L: Ledger, A: Allocator + Copy> Hub<C, L, A> {
                 let mut share = self.tally.part();
                 self.tally.count(&mut share);
                 let seen = self.desk.seen(place);
+                let discarded = Discarded::new();
                 Ok(Pass {
                     client: ClientId(place),
                     priority,
                     seen,
+                    discarded,
                     receipts: Vec::new(self.alloc),
                     share,
                 })
@@ -159,6 +155,7 @@ impl<C: LegalHistory, L: Ledger, A: Allocator + Copy> Hub<C, L, A> {
           client = pass.client;
           priority = pass.priority;
           joined = pass.seen;
+          discarded = pass.discarded;
           receipts = pass.receipts;
           died_at = next_place self.old.desk;
           seen = result.seen;
@@ -170,6 +167,7 @@ impl<C: LegalHistory, L: Ledger, A: Allocator + Copy> Hub<C, L, A> {
             client,
             priority,
             seen: joined,
+            discarded,
             receipts,
             mut share,
         } = pass;
@@ -187,6 +185,7 @@ impl<C: LegalHistory, L: Ledger, A: Allocator + Copy> Hub<C, L, A> {
             client,
             priority,
             joined,
+            discarded,
             receipts,
             died_at,
             seen,
@@ -204,8 +203,9 @@ impl<C: LegalHistory, L: Ledger, A: Allocator + Copy> Hub<C, L, A> {
         moment: Moment,
     ) -> Result<(), Refusal>
         ensures ok { OnOk result (Ticks self.old clock moment self.new) }
-        ensures told { OnOk result (pass.new.moments
-            ≡ pass.old.moments ++ record { clock = clock; moment = moment } ∷ []) }
+        ensures told { OnOk result (pass.new ≡ record pass.old {
+          moments = pass.old.moments ++ record { clock = clock; moment = moment } ∷ [];
+        }) }
         ensures err { IfErr result (IsRefusedAs (refusal_with_seals (kept self.old.desk).limit
             (past (kept self.old.desk)) (event.Moment clock moment))) }
         ensures unchanged { OnErr result ((self.new ≡ self.old) × (pass.new ≡ pass.old)) }
@@ -252,7 +252,7 @@ impl<C: LegalHistory, L: Ledger, A: Allocator + Copy> Hub<C, L, A> {
     /// if a growth is refused.  [profile]
     pub fn open_session(&mut self) -> Result<(SessionId, ClockPass<L, A>), Refusal>
         ensures ok { IfOk result (λ r. Opens self.old self.new r.0.0) }
-        ensures clock { IfOk result (λ r. r.1.moments ≡ []) }
+        ensures clock { IfOk result (λ r. r.1 ≡ new_clock) }
         ensures limit { (result ≡ Err Refusal.Limit) ↔ (self.old.opened ≡ 2 ^ 32) }
         ensures err { IfErr result (IsNotOpened self.old) }
         ensures unchanged { OnErr result (self.new ≡ self.old) }
@@ -268,11 +268,7 @@ impl<C: LegalHistory, L: Ledger, A: Allocator + Copy> Hub<C, L, A> {
         marks::open(&mut self.marks, session);
         self.opened += 1;
         let share = self.tally.part();
-        let clock = ClockPass {
-            moments: Vec::new(self.alloc),
-            share,
-        };
-        Ok((SessionId(session), clock))
+        Ok((SessionId(session), ClockPass::new(share, self.alloc)))
     }
 
     /// Notes that the input of a session has ended, if the session is open.
@@ -301,24 +297,6 @@ impl<C: LegalHistory, L: Ledger, A: Allocator + Copy> Hub<C, L, A> {
         ensures { result ≡ next_place self.now.desk }
     {
         self.desk.len()
-    }
-
-    /// Returns the answer at this index of those that the entries from a place on give. They are in
-    /// the order of the entries, and those of one Trip in the order of the calls' places.
-    /// [profile]
-    pub fn answer_since(&self, place: u64, index: usize) -> Option<Reply>
-        ensures { option_map told_of result ≡ slice_get
-            (answers_behind (kept self.now.desk).start place (kept self.now.desk).entries) index }
-    {
-        self.desk.answer_since(place, index)
-    }
-
-    /// Returns the entry at a place with its cell. Returns `None` if the history has no entry
-    /// there, if the entry's cell refused it, and if one more owner of the cell is refused.
-    pub fn seen(&self, place: u64) -> Option<Seen>
-        ensures { IfSome result (λ s. seen_at self.now.desk place ≡ Some s) }
-    {
-        self.desk.seen(place)
     }
 
     /// Returns the allocator that the hub was made with.

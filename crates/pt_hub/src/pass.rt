@@ -1,5 +1,6 @@
 //! The shares of the ledger that a client, a dead client and a clock hold, and what they did.
 
+use crate::discarded::Discarded;
 use pt_cells::Seen;
 use pt_types::{Call, ClientId, Clock, Moment, Outcome, Priority};
 use std::alloc::{Allocator, Global};
@@ -37,18 +38,20 @@ pub struct Tick {
     pub moment: Moment,
 }
 
-/// A living client. Contracts see its number, its priority and its receipts.
+/// A living client. Contracts see its number, its priority, its receipts, and those before them
+/// that were discarded.
 #[derive(Drop)]
 pub struct Pass<L: Ledger, A: Allocator + Copy = Global> {
     pub(crate) client: ClientId,
     pub(crate) priority: Priority,
     pub(crate) seen: Option<Seen>,
+    pub(crate) discarded: Discarded<Receipt>,
     pub(crate) receipts: Vec<Receipt, A>,
     pub(crate) share: Share<L>,
 }
 
 impl<L: Ledger, A: Allocator + Copy> Model for Pass<L, A> {
-    ghost use Rattle.std.specs.Prelude.{◌≡◌, ◌+◌, vec_len};
+    ghost use Rattle.std.specs.Prelude.{◌≡◌, ◌+◌, length, vec_len};
     ghost use Rattle.pt_hub.specs.Passes.{PassView, AreReceipts, IsJoinOf};
 
     ghost Value = { PassView };
@@ -57,10 +60,12 @@ impl<L: Ledger, A: Allocator + Copy> Model for Pass<L, A> {
       client = p.client;
       priority = p.priority;
       seen = p.seen;
+      discarded = p.discarded;
       receipts = p.receipts.items;
     } };
 
-    ghost invariant = { λ p. (p.share.parts ≡ 1) × (p.share.amount ≡ 1 + vec_len p.receipts)
+    ghost invariant = { λ p. (p.share.parts ≡ 1)
+        × (p.share.amount ≡ 1 + length p.discarded + vec_len p.receipts)
         × AreReceipts p.client p.receipts.items × IsJoinOf p.client p.priority p.seen };
 }
 
@@ -69,6 +74,7 @@ pub struct Left<L: Ledger, A: Allocator + Copy = Global> {
     pub(crate) client: ClientId,
     pub(crate) priority: Priority,
     pub(crate) joined: Option<Seen>,
+    pub(crate) discarded: Discarded<Receipt>,
     pub(crate) receipts: Vec<Receipt, A>,
     pub(crate) died_at: u64,
     pub(crate) seen: Option<Seen>,
@@ -77,7 +83,7 @@ pub struct Left<L: Ledger, A: Allocator + Copy = Global> {
 }
 
 impl<L: Ledger, A: Allocator + Copy> Model for Left<L, A> {
-    ghost use Rattle.std.specs.Prelude.{◌≡◌, ◌+◌, ◌≤◌, vec_len};
+    ghost use Rattle.std.specs.Prelude.{◌≡◌, ◌+◌, ◌≤◌, length, vec_len};
     ghost use Rattle.pt_hub.specs.Passes.{LeftView, AreReceipts, IsJoinOf, IsDeathOf};
 
     ghost Value = { LeftView };
@@ -86,6 +92,7 @@ impl<L: Ledger, A: Allocator + Copy> Model for Left<L, A> {
       client = p.client;
       priority = p.priority;
       joined = p.joined;
+      discarded = p.discarded;
       receipts = p.receipts.items;
       died_at = p.died_at;
       seen = p.seen;
@@ -93,7 +100,7 @@ impl<L: Ledger, A: Allocator + Copy> Model for Left<L, A> {
     } };
 
     ghost invariant = { λ p. (p.share.parts ≡ 1) × (p.deaths ≤ 1)
-        × (p.share.amount ≡ 1 + p.deaths + vec_len p.receipts)
+        × (p.share.amount ≡ 1 + p.deaths + length p.discarded + vec_len p.receipts)
         × AreReceipts p.client p.receipts.items × IsJoinOf p.client p.priority p.joined
         × IsDeathOf p.client p.receipts.items p.died_at p.seen };
 }
@@ -105,6 +112,7 @@ impl<L: Ledger, A: Allocator + Copy> Drop for Left<L, A> {
             client: _,
             priority: _,
             joined: _,
+            discarded: _,
             receipts: _,
             died_at: _,
             seen: _,
@@ -114,27 +122,31 @@ impl<L: Ledger, A: Allocator + Copy> Drop for Left<L, A> {
     }
 }
 
-/// The right to submit moments. Contracts see the moments that were submitted, in order.
+/// The right to submit moments. Contracts see the moments that were submitted, in order, of which
+/// the first may be discarded.
 pub struct ClockPass<L: Ledger, A: Allocator + Copy = Global> {
+    pub(crate) discarded: Discarded<Tick>,
     pub(crate) moments: Vec<Tick, A>,
     pub(crate) share: Share<L>,
 }
 
 impl<L: Ledger, A: Allocator + Copy> Model for ClockPass<L, A> {
-    ghost use Rattle.std.specs.Prelude.{◌≡◌, List, vec_len};
+    ghost use Rattle.std.specs.Prelude.{◌≡◌, ◌+◌, length, vec_len};
     ghost use Rattle.pt_hub.specs.Passes.{ClockView};
 
     ghost Value = { ClockView };
 
-    ghost view = { λ p. record { moments = p.moments.items } };
+    ghost view = { λ p. record { discarded = p.discarded; moments = p.moments.items } };
 
-    ghost invariant = { λ p. (p.share.parts ≡ 1) × (p.share.amount ≡ vec_len p.moments) };
+    ghost invariant = { λ p. (p.share.parts ≡ 1)
+        × (p.share.amount ≡ length p.discarded + vec_len p.moments) };
 }
 
 // Not derived, so that code that drops this right proves nothing of its parts.
 impl<L: Ledger, A: Allocator + Copy> Drop for ClockPass<L, A> {
     fn drop(self) {
         let ClockPass {
+            discarded: _,
             moments: _,
             share: _,
         } = self;
@@ -142,7 +154,19 @@ impl<L: Ledger, A: Allocator + Copy> Drop for ClockPass<L, A> {
 }
 
 impl<L: Ledger, A: Allocator + Copy> Pass<L, A> {
-    ghost use Rattle.std.specs.Prelude.{◌≡◌};
+    ghost use Rattle.std.specs.Prelude.{◌≡◌, ◌++◌, []};
+
+    /// Discards the receipts, so that they take no memory. The answer to a call that waits can't be
+    /// taken any more. A hub doesn't close on what the client leaves.
+    pub fn discard_receipts(&mut self)
+        ensures { self.new ≡ record self.old {
+          discarded = self.old.discarded ++ self.old.receipts;
+          receipts = [];
+        } }
+    {
+        self.discarded.add(self.receipts.as_slice());
+        self.receipts.clear();
+    }
 
     /// Returns the client's number.
     pub fn client(&self) -> ClientId
@@ -158,7 +182,7 @@ impl<L: Ledger, A: Allocator + Copy> Pass<L, A> {
         self.priority
     }
 
-    /// Returns the client's receipts, in order.
+    /// Returns the client's receipts that weren't discarded, in order.
     pub fn receipts(&self) -> &[Receipt]
         ensures { result.now ≡ self.now.receipts }
     {
@@ -203,7 +227,7 @@ impl<L: Ledger, A: Allocator + Copy> Left<L, A> {
         self.priority
     }
 
-    /// Returns the client's receipts, in order.
+    /// Returns the client's receipts that weren't discarded, in order.
     pub fn receipts(&self) -> &[Receipt]
         ensures { result.now ≡ self.now.receipts }
     {
@@ -235,9 +259,34 @@ impl<L: Ledger, A: Allocator + Copy> Left<L, A> {
 }
 
 impl<L: Ledger, A: Allocator + Copy> ClockPass<L, A> {
-    ghost use Rattle.std.specs.Prelude.{◌≡◌};
+    ghost use Rattle.std.specs.Prelude.{◌≡◌, ◌++◌, []};
+    ghost use Rattle.pt_hub.specs.Passes.{new_clock};
 
-    /// Returns the moments that were submitted, in order.
+    // Creates the right of the holder of this share, which has counted nothing.
+    pub(crate) fn new(share: Share<L>, alloc: A) -> ClockPass<L, A>
+        requires part { share.parts ≡ 1 }
+        requires amount { share.amount ≡ 0 }
+        ensures { result ≡ new_clock }
+    {
+        ClockPass {
+            discarded: Discarded::new(),
+            moments: Vec::new(alloc),
+            share,
+        }
+    }
+
+    /// Discards the moments, so that they take no memory. A hub doesn't close on this clock.
+    pub fn discard_moments(&mut self)
+        ensures { self.new ≡ record {
+          discarded = self.old.discarded ++ self.old.moments;
+          moments = [];
+        } }
+    {
+        self.discarded.add(self.moments.as_slice());
+        self.moments.clear();
+    }
+
+    /// Returns the moments that were submitted and not discarded, in order.
     pub fn moments(&self) -> &[Tick]
         ensures { result.now ≡ self.now.moments }
     {

@@ -7,7 +7,7 @@ use Rattle.std.proofs.lemmas.Bool.{and_parts, false≢true}
 use Rattle.std.proofs.lemmas.Bool.Decides.{nat_tests}
 use Rattle.pt_types.specs.Limits.{most_priority}
 use Rattle.pt_waitq.specs.declared.waiter.Waiter.{Waiter}
-use Rattle.pt_waitq.specs.Queues.{In as Among, IsInKeyOrder, comes_before, queues_of}
+use Rattle.pt_waitq.specs.Queues.{In as Among, IsInKeyOrder, QueuesView, comes_before}
 use Rattle.pt_model.specs.Searches.{In}
 use Rattle.pt_model.specs.Histories.{History}
 use Rattle.pt_model.specs.declared.waiting_call.WaitingCall.{WaitingCall}
@@ -65,9 +65,9 @@ rises v w c j d k e i late =
     go false less = grind (arith, nat_tests)
     go true less = absurd (false≢true (sym told ∙ ap (λ b. b || ((k == j) && b)) less))
 
-module _ (h : History) (u : WaitingCall) (queue : ℕ → List Waiter) (admitted made : ℕ → Bool)
-    (f : Follows h) (i : In u (open_calls h)) (arrival : is_arrival u.role ≡ true)
-    (k : IsQueued h (queues_of queue admitted made)) where
+module _ (h : History) (u : WaitingCall) (view : QueuesView) (f : Follows h)
+    (i : In u (open_calls h)) (arrival : is_arrival u.role ≡ true)
+    (k : IsQueued h view) where
   -- a call waits at the barrier exactly if it is an arrival there
   stands : (w : WaitingCall) → In w (open_calls h)
       → (at_object h w == u.object) ≡ (is_arrival w.role && (w.object == u.object))
@@ -80,7 +80,7 @@ module _ (h : History) (u : WaitingCall) (queue : ℕ → List Waiter) (admitted
   Standing v =
       (w : WaitingCall) × In w (open_calls h) × (is_arrival w.role ≡ true) × (v ≡ waiter h w)
 
-  called-by : (v : Waiter) → Among v (queue u.object) → Standing v
+  called-by : (v : Waiter) → Among v (view.queue u.object) → Standing v
   called-by v j =
       let r = k.members.known u.object v j in
       let there = in-list r.0 (open_calls h) r.1 in
@@ -105,11 +105,11 @@ module _ (h : History) (u : WaitingCall) (queue : ℕ → List Waiter) (admitted
       later (w ∷ ws) e t =
           (one w e.0 (t w (inl refl)), later ws e.1 (λ x i. t x (inr i)))
 
-  pub arrivals-queued : AreArrivals h u.object (queue u.object)
+  pub arrivals-queued : AreArrivals h u.object (view.queue u.object)
   arrivals-queued =
       record {
         known = λ v j.
-            let r = k.members.known u.object v (in-queue v (queue u.object) j) in
+            let r = k.members.known u.object v (in-queue v (view.queue u.object) j) in
             let there = in-list r.0 (open_calls h) r.1 in
             let at = eq-eqb (at_object h r.0) u.object r.2 in (
               r.0,
@@ -127,10 +127,10 @@ module _ (h : History) (u : WaitingCall) (queue : ℕ → List Waiter) (admitted
             let own = k.members.held w (in-queue w (open_calls h) part.0) in (
               waiter h w,
               (
-                subst (λ (q : ℕ). In (waiter h w) (queue q)) at
-                    (in-list (waiter h w) (queue (at_object h w)) own),
+                subst (λ (q : ℕ). In (waiter h w) (view.queue q)) at
+                    (in-list (waiter h w) (view.queue (at_object h w)) own),
                 (refl, refl),
               ),
             );
-        in_order = rising (queue u.object) (k.members.in_order u.object) called-by;
+        in_order = rising (view.queue u.object) (k.members.in_order u.object) called-by;
       }

@@ -1,10 +1,15 @@
 -- What follows if a call needs no memory to wait.
-use Rattle.std.proofs.Common.{◌≡◌, Bool, true, false, ◌||◌, Some, is_some, refl, ap}
+use Rattle.std.proofs.Common.{◌≡◌, Bool, true, false, ◌||◌, Some, is_some, Result, refl, ap}
 use Rattle.pt_types.specs.Times.{Timespec}
+use Rattle.pt_types.specs.declared.outcome.Refusal.{Refusal}
 use Rattle.pt_types.specs.Operations.{Operation}
+use Rattle.pt_waitq.specs.Queues.{QueuesView}
+use Rattle.pt_model.specs.declared.entry.Entry.{Entry}
 use Rattle.pt_state.specs.Outer.{asks_to_read}
+use Rattle.pt_state.specs.declared.state.State.{State}
 use Rattle.pt_machine.specs.Timed.{asked, good_of}
 use Rattle.pt_machine.specs.Memory.{needs_memory_to_wait}
+use Rattle.pt_machine.specs.Pushes.{PushesOnOk}
 
 -- it asks for no read lock
 pub small-unread : (o : Operation) → needs_memory_to_wait o ≡ false → asks_to_read o ≡ false
@@ -23,3 +28,16 @@ small-untimed o d good e = go (asks_to_read o) e
     go : (b : Bool) → (b || is_some (good_of (asked o))) ≡ false → ⊥
     go true none = cc
     go false none = let some : is_some (good_of (asked o)) ≡ true = ap is_some good in cc
+
+-- so it is never refused
+pub left-needs : {A X : Type 0} {old new : State A} {e : Entry} {result : Result X Refusal}
+    {view : QueuesView} (o : Operation) → PushesOnOk old e (asks_to_read o) result new view
+    → PushesOnOk old e (needs_memory_to_wait o) result new view
+left-needs o p =
+    record {
+      ok = p.ok;
+      err = p.err;
+      reason = p.reason;
+      enough = λ small. p.enough (small-unread o small);
+      queued = p.queued;
+    }

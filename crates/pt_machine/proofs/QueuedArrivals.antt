@@ -5,7 +5,7 @@ use Rattle.std.proofs.lemmas.Bool.{false≢true}
 use Rattle.std.proofs.lemmas.Bool.Decides.{nat_tests}
 use Rattle.pt_types.specs.declared.time.Clock.{Clock}
 use Rattle.pt_waitq.specs.declared.waiter.Waiter.{Waiter}
-use Rattle.pt_waitq.specs.Queues.{queues_of, stands_in, without, QueuesView}
+use Rattle.pt_waitq.specs.Queues.{QueuesView, stands_in, without}
 use Rattle.pt_waitq.specs.Members.{Members}
 use Rattle.pt_waitq.specs.Waits.{no_waits, seen_in}
 use Rattle.pt_waitq.proofs.MemberLemmas.{members-out}
@@ -43,48 +43,42 @@ queued-begin h view begins empty =
     (subst (λ (v : QueuesView). IsQueued (Begin nothing) v) (sym empty) queued-none)
 
 -- a reading of the clock changes no queue
-pub queued-moment : (h : History) (z : Clock) (t : ℕ) (queue : ℕ → List Waiter)
-    (admitted made : ℕ → Bool) → IsQueued h (queues_of queue admitted made)
-    → IsQueued (h ▷ Moment z t) (queues_of queue admitted made)
-queued-moment h z t queue admitted made k =
-    queued-same h (Moment z t) queue queue admitted admitted made made (λ q. refl) (λ c. refl)
-    (λ o. refl) (open-moment h z t) (λ w i. refl) (λ c. refl) (λ o. refl) k
+pub queued-moment : (h : History) (z : Clock) (t : ℕ) (view : QueuesView) → IsQueued h view
+    → IsQueued (h ▷ Moment z t) view
+queued-moment h z t view k =
+    queued-same h (Moment z t) view (open-moment h z t) (λ w i. refl) (λ c. refl) (λ o. refl) k
 
 -- nor does a Yield, which changes the state of one mutex alone
-pub queued-yield : (h : History) (m : ℕ) (queue : ℕ → List Waiter) (admitted made : ℕ → Bool)
-    → IsQueued h (queues_of queue admitted made)
-    → IsQueued (h ▷ Yield m) (queues_of queue admitted made)
-queued-yield h m queue admitted made k =
-    queued-same h (Yield m) queue queue admitted admitted made made (λ q. refl) (λ c. refl)
-    (λ o. refl) (open-yield h m) (λ w i. refl) (λ c. refl) (λ o. refl) k
+pub queued-yield : (h : History) (m : ℕ) (view : QueuesView) → IsQueued h view
+    → IsQueued (h ▷ Yield m) view
+queued-yield h m view k =
+    queued-same h (Yield m) view (open-yield h m) (λ w i. refl) (λ c. refl) (λ o. refl) k
 
 joined_lives : (b : Bool) (p : ℕ) (o : Option ℕ) → (b || is_some o) ≡ is_some (cond b (Some p) o)
 joined_lives true p o = refl
 joined_lives false p o = refl
 
 -- a client that joins has room for its call, and no call yet
-pub queued-join : (h : History) (n p : ℕ) (queue queue' : ℕ → List Waiter)
-    (admitted admitted' made made' : ℕ → Bool) → Follows h → n ≡ place h
-    → ((q : ℕ) → queue' q ≡ queue q)
-    → ((c : ℕ) → admitted' c ≡ ((n == c) || admitted c))
-    → ((o : ℕ) → made' o ≡ made o)
-    → IsQueued h (queues_of queue admitted made)
-    → IsQueued (h ▷ Join (place h) p) (queues_of queue' admitted' made')
-queued-join h n p queue queue' admitted admitted' made made' f here queues rooms places k =
+pub queued-join : (h : History) (n p : ℕ) (view view' : QueuesView) → Follows h → n ≡ place h
+    → ((q : ℕ) → view'.queue q ≡ view.queue q)
+    → ((c : ℕ) → view'.admitted c ≡ ((n == c) || view.admitted c))
+    → ((o : ℕ) → view'.made o ≡ view.made o)
+    → IsQueued h view → IsQueued (h ▷ Join (place h) p) view'
+queued-join h n p view view' f here queues rooms places k =
     record {
-      members = members-carry h (h ▷ Join (place h) p) queue queue' queues
+      members = members-carry h (h ▷ Join (place h) p) view.queue view'.queue queues
           (open-join h p (Fresh-follows h f)) (λ w i. refl) k.members;
       admits = λ c.
-          rooms c ∙ ap (λ m. (m == c) || admitted c) here
+          rooms c ∙ ap (λ m. (m == c) || view.admitted c) here
           ∙ (ap (λ b. (place h == c) || b) (k.admits c)
           ∙ joined_lives (place h == c) p (client h c));
       makes = λ o. places o ∙ k.makes o;
     }
 
 -- there is no room yet for the client that would join next
-pub no-room-yet : (h : History) (n : ℕ) (queue : ℕ → List Waiter) (admitted made : ℕ → Bool)
-    → Follows h → n ≡ place h → IsQueued h (queues_of queue admitted made) → admitted n ≡ false
-no-room-yet h n queue admitted made f here k =
+pub no-room-yet : (h : History) (n : ℕ) (view : QueuesView)
+    → Follows h → n ≡ place h → IsQueued h view → view.admitted n ≡ false
+no-room-yet h n view f here k =
     k.admits n ∙ ap is_some ((Fresh-follows h f).clients n (omega (arith, here)))
 
 -- a client for which there is no room is in no queue
@@ -116,18 +110,17 @@ died_lives true o = refl
 died_lives false o = refl
 
 -- the death of a client removes its call from the queues, and its room
-pub queued-death : (h : History) (c : ℕ) (queue queue' : ℕ → List Waiter)
-    (admitted admitted' made made' : ℕ → Bool)
-    → ((q : ℕ) → queue' q ≡ without c (queue q))
-    → ((d : ℕ) → admitted' d ≡ (not (c == d) && admitted d))
-    → ((o : ℕ) → made' o ≡ made o)
-    → IsQueued h (queues_of queue admitted made)
-    → IsQueued (h ▷ Death c) (queues_of queue' admitted' made')
-queued-death h c queue queue' admitted admitted' made made' queues rooms places k =
+pub queued-death : (h : History) (c : ℕ) (view view' : QueuesView)
+    → ((q : ℕ) → view'.queue q ≡ without c (view.queue q))
+    → ((d : ℕ) → view'.admitted d ≡ (not (c == d) && view.admitted d))
+    → ((o : ℕ) → view'.made o ≡ view.made o)
+    → IsQueued h view → IsQueued (h ▷ Death c) view'
+queued-death h c view view' queues rooms places k =
     record {
-      members = subst (λ (ws : List WaitingCall). Members (at_object h) (waiter h) ws queue')
+      members = subst (λ (ws : List WaitingCall). Members (at_object h) (waiter h) ws view'.queue)
           (sym (open-death h c))
-          (members-out (at_object h) (waiter h) (open_calls h) c queue queue' queues k.members);
+          (members-out (at_object h) (waiter h) (open_calls h) c view.queue view'.queue queues
+          k.members);
       admits = λ d. rooms d ∙ ap (λ b. not (c == d) && b) (k.admits d)
           ∙ died_lives (c == d) (client h d);
       makes = λ o. places o ∙ k.makes o;

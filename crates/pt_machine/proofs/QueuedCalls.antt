@@ -16,7 +16,7 @@ use Rattle.pt_types.specs.Operations.{clock_of}
 use Rattle.pt_types.specs.declared.operations.ObjectClass.{ObjectClass}
 use Rattle.pt_types.specs.MutexTable.{is_number}
 use Rattle.pt_waitq.specs.declared.waiter.Waiter.{Waiter}
-use Rattle.pt_waitq.specs.Queues.{queues_of, In, stands_in}
+use Rattle.pt_waitq.specs.Queues.{QueuesView, In, stands_in}
 use Rattle.pt_waitq.specs.ListLemmas.{any-in}
 use Rattle.pt_model.specs.declared.entry.Entry.TheVariants.{Call}
 use Rattle.pt_model.specs.Histories.{History, ◌▷◌, place}
@@ -111,29 +111,26 @@ module _ (h : History) (c : ℕ) (call : Asked) (x : Outcome) (f : Follows h)
       ∙ append-nil (open_calls h))
 
   -- one that moves no wait leaves each queue as it was
-  pub queued-answered : (queue queue' : ℕ → List Waiter) (admitted admitted' made made' : ℕ → Bool)
-      → ((q : ℕ) → queue' q ≡ queue q) → ((d : ℕ) → admitted' d ≡ admitted d)
-      → ((o : ℕ) → made' o ≡ is_some (kind_of (h ▷ Call c call (Some x)) o))
+  pub queued-answered : (view view' : QueuesView)
+      → ((q : ℕ) → view'.queue q ≡ view.queue q) → ((d : ℕ) → view'.admitted d ≡ view.admitted d)
+      → ((o : ℕ) → view'.made o ≡ is_some (kind_of (h ▷ Call c call (Some x)) o))
       → ((j : ℕ) → cause_by h (moved h) (Call c call (Some x)) j ≡ None)
-      → IsQueued h (queues_of queue admitted made)
-      → IsQueued (h ▷ Call c call (Some x)) (queues_of queue' admitted' made')
-  queued-answered queue queue' admitted admitted' made made' queues rooms there still k =
+      → IsQueued h view → IsQueued (h ▷ Call c call (Some x)) view'
+  queued-answered view view' queues rooms there still k =
       record {
-        members = members-carry h (h ▷ Call c call (Some x)) queue queue' queues open-answered
-            (λ w i. ap (λ u. move_or (place h) u (moved h w.place)) (still w.place)) k.members;
+        members = members-carry h (h ▷ Call c call (Some x)) view.queue view'.queue queues
+            open-answered (λ w i. ap (λ u. move_or (place h) u (moved h w.place)) (still w.place))
+            k.members;
         admits = λ d. rooms d ∙ k.admits d;
         makes = there;
       }
 
   -- a call that is answered anything but 0
-  pub queued-told : (queue queue' : ℕ → List Waiter) (admitted admitted' made made' : ℕ → Bool)
-      → ((q : ℕ) → queue' q ≡ queue q) → ((d : ℕ) → admitted' d ≡ admitted d)
-      → ((o : ℕ) → made' o ≡ made o) → is_done x ≡ false
-      → IsQueued h (queues_of queue admitted made)
-      → IsQueued (h ▷ Call c call (Some x)) (queues_of queue' admitted' made')
-  queued-told queue queue' admitted admitted' made made' queues rooms there other k =
-      queued-answered queue queue' admitted admitted' made made' queues rooms
-      (λ o. there o ∙ (k.makes o ∙ ap is_some (sym (told-kind h c call x o other))))
+  pub queued-told : (view : QueuesView) → is_done x ≡ false → IsQueued h view
+      → IsQueued (h ▷ Call c call (Some x)) view
+  queued-told view other k =
+      queued-answered view view (λ q. refl) (λ d. refl)
+      (λ o. k.makes o ∙ ap is_some (sym (told-kind h c call x o other)))
       (λ j. told-cause h (moved h) c call x j other) k
 
 module _ (h : History) (c : ℕ) (call : Asked) (f : Follows h)
@@ -145,26 +142,21 @@ module _ (h : History) (c : ℕ) (call : Asked) (f : Follows h)
       (may-do h c call Done f s)
 
   -- a call that makes no object, ends none and wakes no wait
-  pub queued-plain : (queue queue' : ℕ → List Waiter) (admitted admitted' made made' : ℕ → Bool)
-      → ((q : ℕ) → queue' q ≡ queue q) → ((d : ℕ) → admitted' d ≡ admitted d)
-      → ((o : ℕ) → made' o ≡ made o) → is_plain (operation call) ≡ true
-      → IsQueued h (queues_of queue admitted made)
-      → IsQueued (h ▷ Call c call (Some Done)) (queues_of queue' admitted' made')
-  queued-plain queue queue' admitted admitted' made made' queues rooms there plain k =
-      queued-answered h c call Done f s queue queue' admitted admitted' made made' queues rooms
-      (λ o. there o
-      ∙ (k.makes o ∙ ap is_some (sym (plain-kind h (operation call) (kind_of h o) o plain))))
+  pub queued-plain : (view : QueuesView) → is_plain (operation call) ≡ true → IsQueued h view
+      → IsQueued (h ▷ Call c call (Some Done)) view
+  queued-plain view plain k =
+      queued-answered h c call Done f s view view (λ q. refl) (λ d. refl)
+      (λ o. k.makes o ∙ ap is_some (sym (plain-kind h (operation call) (kind_of h o) o plain)))
       (λ j. plain-cause h (moved h) (operation call) j plain) k
 
   -- an object is made: its number is the place of its call
   pub queued-made : (n : List ℕ) (kind : ObjectKind) → operation call ≡ Makes n kind
-      → (queue queue' : ℕ → List Waiter) (admitted admitted' made made' : ℕ → Bool)
-      → ((q : ℕ) → queue' q ≡ queue q) → ((d : ℕ) → admitted' d ≡ admitted d)
-      → ((o : ℕ) → made' o ≡ ((place h == o) || made o))
-      → IsQueued h (queues_of queue admitted made)
-      → IsQueued (h ▷ Call c call (Some Done)) (queues_of queue' admitted' made')
-  queued-made n kind e queue queue' admitted admitted' made made' queues rooms there k =
-      queued-answered h c call Done f s queue queue' admitted admitted' made made' queues rooms
+      → (view view' : QueuesView)
+      → ((q : ℕ) → view'.queue q ≡ view.queue q) → ((d : ℕ) → view'.admitted d ≡ view.admitted d)
+      → ((o : ℕ) → view'.made o ≡ ((place h == o) || view.made o))
+      → IsQueued h view → IsQueued (h ▷ Call c call (Some Done)) view'
+  queued-made n kind e view view' queues rooms there k =
+      queued-answered h c call Done f s view view' queues rooms
       (λ o. there o ∙ (ap (λ b. (place h == o) || b) (k.makes o) ∙ (one_more (place h == o)
       (kind_of h o) ∙ ap (λ (d : Operation). is_some (kind_by_operation h d (kind_of h o) o))
       (sym e))))
@@ -186,13 +178,12 @@ module _ (h : History) (c : ℕ) (call : Asked) (f : Follows h)
   -- an object is ended, and its queue with it
   pub queued-ended : (n : List ℕ) (class : ObjectClass) → operation call ≡ Ends n class → (q : ℕ)
       → find h n class ≡ Some q
-      → (queue queue' : ℕ → List Waiter) (admitted admitted' made made' : ℕ → Bool)
-      → ((o : ℕ) → queue' o ≡ queue o) → ((d : ℕ) → admitted' d ≡ admitted d)
-      → ((o : ℕ) → made' o ≡ (not (q == o) && made o))
-      → IsQueued h (queues_of queue admitted made)
-      → IsQueued (h ▷ Call c call (Some Done)) (queues_of queue' admitted' made')
-  queued-ended n class e q found queue queue' admitted admitted' made made' queues rooms there k =
-      queued-answered h c call Done f s queue queue' admitted admitted' made made' queues rooms
+      → (view view' : QueuesView)
+      → ((o : ℕ) → view'.queue o ≡ view.queue o) → ((d : ℕ) → view'.admitted d ≡ view.admitted d)
+      → ((o : ℕ) → view'.made o ≡ (not (q == o) && view.made o))
+      → IsQueued h view → IsQueued (h ▷ Call c call (Some Done)) view'
+  queued-ended n class e q found view view' queues rooms there k =
+      queued-answered h c call Done f s view view' queues rooms
       (λ o. there o ∙ (ap (λ b. not (q == o) && b) (k.makes o) ∙ (one_fewer (q == o) (kind_of h o)
       ∙ (ap (λ x. is_some (cond (is_number x o) None (kind_of h o))) (sym found)
       ∙ ap (λ (d : Operation). is_some (kind_by_operation h d (kind_of h o) o)) (sym e)))))
@@ -203,17 +194,16 @@ module _ (h : History) (c : ℕ) (call : Asked) (f : Follows h)
       one_fewer true before = refl
       one_fewer false before = refl
 
-module _ (h : History) (queue : ℕ → List Waiter) (admitted made : ℕ → Bool) (f : Follows h)
-    (k : IsQueued h (queues_of queue admitted made)) where
+module _ (h : History) (view : QueuesView) (f : Follows h) (k : IsQueued h view) where
   -- no queue has the number of the next place yet
-  pub unmade-next : made (place h) ≡ false
+  pub unmade-next : view.made (place h) ≡ false
   unmade-next =
       k.makes (place h)
       ∙ ap is_some ((Fresh-follows h f).kinds (place h) (omega arith))
 
   -- an object that is found has its queue
   pub made-found : (n : List ℕ) (class : ObjectClass) (o : ℕ) → find h n class ≡ Some o
-      → made o ≡ true
+      → view.made o ≡ true
   made-found n class o e = k.makes o ∙ there (kind_of h o) (known_exists h f class o (n, e))
     where
       there : (x : Option ObjectKind) → is_class x class ≡ true → is_some x ≡ true
@@ -221,10 +211,10 @@ module _ (h : History) (queue : ℕ → List Waiter) (admitted made : ℕ → Bo
       there (Some kind) t = refl
 
   -- the queue of an object at which no call waits is empty
-  pub unawaited-empty : (o : ℕ) → is_awaited h o ≡ false → queue o ≡ []
-  unawaited-empty o e = go (queue o) refl
+  pub unawaited-empty : (o : ℕ) → is_awaited h o ≡ false → view.queue o ≡ []
+  unawaited-empty o e = go (view.queue o) refl
     where
-      go : (vs : List Waiter) → queue o ≡ vs → queue o ≡ []
+      go : (vs : List Waiter) → view.queue o ≡ vs → view.queue o ≡ []
       go [] same = same
       go (v ∷ vs) same =
           let first : In v (v ∷ vs) = inl refl in

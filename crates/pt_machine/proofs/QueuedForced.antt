@@ -1,7 +1,7 @@
 -- The queues of a state after a forced entry.
-use Rattle.std.proofs.Common.{◌≡◌, ℕ, Bool, false, cond, List, ap, subst}
-use Rattle.pt_waitq.specs.declared.waiter.Waiter.{Waiter}
-use Rattle.pt_waitq.specs.Queues.{queues_of, without}
+use Rattle.std.proofs.Common.{◌≡◌, ℕ, false, cond, ap, subst}
+use Rattle.pt_waitq.specs.Queues.{QueuesView, without}
+use Rattle.pt_model.specs.declared.entry.Entry.{Entry}
 use Rattle.pt_model.specs.declared.entry.Entry.TheVariants.{Grant, Trip, Expire}
 use Rattle.pt_model.specs.Searches.{In}
 use Rattle.pt_model.specs.WaitingCall.{is_arrival, is_wait}
@@ -16,37 +16,36 @@ use Rattle.pt_state.specs.Reads.{AreTables}
 use Rattle.pt_state.specs.Serving.{called}
 use Rattle.pt_state.proofs.ServingFinds.{are-open}
 use Rattle.pt_machine.specs.Queued.{IsQueued}
+use Rattle.pt_machine.specs.Pushes.{CanPush}
 use Rattle.pt_machine.proofs.QueuedSame.{queued-adds}
 use Rattle.pt_machine.proofs.QueuedOut.{queued-grant, queued-expire}
 
-module _ {A : Type 0} (old new : State A) (o : Open) (queue queue' : ℕ → List Waiter)
-    (admitted admitted' made made' : ℕ → Bool) (read : AreTables old)
-    (known : In o (opens_of old.clients)) (room : (c : ℕ) → admitted' c ≡ admitted c)
-    (there : (q : ℕ) → made' q ≡ made q)
-    (k : IsQueued (past old) (queues_of queue admitted made)) where
-  -- the call that was found is open
-  open_call : In (called o) (open_calls (past old))
-  open_call = ((are-open (past old) old.clients read.follows read.callers).known o known).0
+-- the call that was found is open
+open_call : {A : Type 0} (s : State A) (o : Open) → AreTables s → In o (opens_of s.clients)
+    → In (called o) (open_calls (past s))
+open_call s o read known =
+    ((are-open (past s) s.clients read.follows read.callers).known o known).0
 
+module _ {A : Type 0} {old new : State A} {e : Entry} {view view' : QueuesView} (o : Open)
+    (can : CanPush old view e) (known : In o (opens_of old.clients))
+    (room : (c : ℕ) → view'.admitted c ≡ view.admitted c)
+    (there : (q : ℕ) → view'.made q ≡ view.made q)
+    (gone : (q : ℕ) → view'.queue q ≡ without o.call.client (view.queue q)) where
   -- a call was granted
   pub queued-granted : Adds old (service (past old) (called o)) new
-      → is_arrival (called o).role ≡ false
-      → ((q : ℕ) → queue' q ≡ without o.call.client (queue q))
-      → IsQueued (past new) (queues_of queue' admitted' made')
-  queued-granted a other gone =
-      queued-adds old new (Grant o.call.place (grant_outcome (past old) (called o))) queue'
-      admitted' made'
+      → is_arrival (called o).role ≡ false → IsQueued (past new) view'
+  queued-granted a other =
+      queued-adds old new (Grant o.call.place (grant_outcome (past old) (called o))) view'
       (subst (λ e. Adds old e new)
       (ap (λ b. cond b (Trip o.call.object)
       (Grant o.call.place (grant_outcome (past old) (called o)))) other) a)
-      (queued-grant (past old) (grant_outcome (past old) (called o)) (called o) queue queue'
-      admitted admitted' made made' read.follows open_call gone room there k)
+      (queued-grant (past old) (grant_outcome (past old) (called o)) (called o) view view'
+      can.ready.read.follows (open_call old o can.ready.read known) gone room there can.queued)
 
   -- a call that is not a wait expired
   pub queued-late : Adds old (Expire o.call.place) new → is_wait (called o).role ≡ false
-      → ((q : ℕ) → queue' q ≡ without o.call.client (queue q))
-      → IsQueued (past new) (queues_of queue' admitted' made')
-  queued-late a other gone =
-      queued-adds old new (Expire o.call.place) queue' admitted' made' a
-      (queued-expire (past old) (called o) queue queue' admitted admitted' made made' read.follows
-      open_call other gone room there k)
+      → IsQueued (past new) view'
+  queued-late a other =
+      queued-adds old new (Expire o.call.place) view' a
+      (queued-expire (past old) (called o) view view' can.ready.read.follows
+      (open_call old o can.ready.read known) other gone room there can.queued)

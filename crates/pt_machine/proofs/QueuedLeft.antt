@@ -8,7 +8,7 @@ use Rattle.pt_types.specs.declared.call.Call.{Call as Asked}
 use Rattle.pt_types.specs.declared.outcome.Outcome.{Outcome}
 use Rattle.pt_types.specs.Operations.{operation, clock_of}
 use Rattle.pt_waitq.specs.declared.waiter.Waiter.{Waiter}
-use Rattle.pt_waitq.specs.Queues.{queues_of, stands_in, IsLatest, insert_in_order}
+use Rattle.pt_waitq.specs.Queues.{QueuesView, stands_in, IsLatest, insert_in_order}
 use Rattle.pt_waitq.specs.ListLemmas.{any-out}
 use Rattle.pt_waitq.proofs.CallerLemmas.{latest-after}
 use Rattle.pt_waitq.proofs.MemberLemmas.{members-in}
@@ -90,161 +90,157 @@ came h f c call s =
     }
 
 module _ (h : History) (f : Follows h) (c : ℕ) (call : Asked) (s : Step h (Call c call None))
-    (queue : ℕ → List Waiter) (admitted made : ℕ → Bool)
-    (k : IsQueued h (queues_of queue admitted made))
-  where
-    -- the history after the call
-    abbrev after : History
-    after = h ▷ Call c call None
+    (view : QueuesView) (k : IsQueued h view) where
+  -- the history after the call
+  abbrev after : History
+  after = h ▷ Call c call None
 
-    new : Came h c call
-    new = came h f c call s
+  new : Came h c call
+  new = came h f c call s
 
-    -- it is open
-    there : In new.waiting (open_calls after)
-    there =
-        subst (λ (ws : List WaitingCall). In new.waiting ws) (sym new.opens)
-        (In-append_right new.waiting (open_calls h) (new.waiting ∷ []) (inl refl))
+  -- it is open
+  there : In new.waiting (open_calls after)
+  there =
+      subst (λ (ws : List WaitingCall). In new.waiting ws) (sym new.opens)
+      (In-append_right new.waiting (open_calls h) (new.waiting ∷ []) (inl refl))
 
-    -- its client had no open call before
-    nowhere : (q : ℕ) → stands_in c (queue q) ≡ false
-    nowhere q = go (stands_in c (queue q)) refl
-      where
-        go : (b : Bool) → stands_in c (queue q) ≡ b → stands_in c (queue q) ≡ false
-        go false e = e
-        go true e =
-            let v = any-out (λ (x : Waiter). x.client == c) (queue q) e in
-            let w = k.members.known q v.0 v.1 in
-            let test : (v.0.client == c) ≡ true = v.2 in
-            let at : v.0.client ≡ c = grind (arith, nat_tests) in
-            let own : w.0.client ≡ c = ap (λ (x : Waiter). x.client) (sym w.3) ∙ at in
-            absurd (
-            none_of_client (open_calls h) c w.0 (called h c call None s).unblocked w.1 own)
+  -- its client had no open call before
+  nowhere : (q : ℕ) → stands_in c (view.queue q) ≡ false
+  nowhere q = go (stands_in c (view.queue q)) refl
+    where
+      go : (b : Bool) → stands_in c (view.queue q) ≡ b → stands_in c (view.queue q) ≡ false
+      go false e = e
+      go true e =
+          let v = any-out (λ (x : Waiter). x.client == c) (view.queue q) e in
+          let w = k.members.known q v.0 v.1 in
+          let test : (v.0.client == c) ≡ true = v.2 in
+          let at : v.0.client ≡ c = grind (arith, nat_tests) in
+          let own : w.0.client ≡ c = ap (λ (x : Waiter). x.client) (sym w.3) ∙ at in
+          absurd (
+          none_of_client (open_calls h) c w.0 (called h c call None s).unblocked w.1 own)
 
-    -- all others arrived before
-    latest : IsLatest (waiter after new.waiting) (queue (at_object after new.waiting))
-    latest =
-        latest-after (waiter after new.waiting) (queue (at_object after new.waiting))
-        (subst (λ (n : ℕ). Each (λ (v : Waiter). v.moved < n)
-        (queue (at_object after new.waiting)))
-        (sym (arrival-new h f new.waiting new.at))
-        (waiters-below h queue f k.members (at_object after new.waiting)))
+  -- all others arrived before
+  latest : IsLatest (waiter after new.waiting) (view.queue (at_object after new.waiting))
+  latest =
+      latest-after (waiter after new.waiting) (view.queue (at_object after new.waiting))
+      (subst (λ (n : ℕ). Each (λ (v : Waiter). v.moved < n)
+      (view.queue (at_object after new.waiting)))
+      (sym (arrival-new h f new.waiting new.at))
+      (waiters-below h view.queue f k.members (at_object after new.waiting)))
 
-    can-stand : CanStand after c (queues_of queue admitted made)
-    can-stand =
-        record {
-          call = new.waiting;
-          «open» = there;
-          its = new.by;
-          room = k.admits c ∙ (called h c call None s).alive;
-          nowhere = nowhere;
-          there = k.makes (at_object after new.waiting)
-              ∙ object-there after (f, s) new.waiting there;
-          latest = latest;
-        }
+  can-stand : CanStand after c view
+  can-stand =
+      record {
+        call = new.waiting;
+        «open» = there;
+        its = new.by;
+        room = k.admits c ∙ (called h c call None s).alive;
+        nowhere = nowhere;
+        there = k.makes (at_object after new.waiting)
+            ∙ object-there after (f, s) new.waiting there;
+        latest = latest;
+      }
 
-    -- the call may take its place
-    pub can-stand-left : (g : History) → g ≡ h ▷ Call c call None
-        → CanStand g c (queues_of queue admitted made)
-    can-stand-left g e =
-        subst (λ (x : History). CanStand x c (queues_of queue admitted made)) (sym e) can-stand
+  -- the call may take its place
+  pub can-stand-left : (g : History) → g ≡ h ▷ Call c call None → CanStand g c view
+  can-stand-left g e =
+      subst (λ (x : History). CanStand x c view) (sym e) can-stand
 
-    -- the queue of each object is unchanged, except the one where the call waits
-    abbrev Puts : History → (ℕ → List Waiter) → Type 0
-    Puts g queue' =
-        (w : WaitingCall) → In w (open_calls g) → w.client ≡ c → (q : ℕ)
-        → queue' q ≡ cond (at_object g w == q) (insert_in_order (waiter g w) (queue q)) (queue q)
+  -- the queue of each object is unchanged, except the one where the call waits
+  abbrev Puts : History → QueuesView → Type 0
+  Puts g view' =
+      (w : WaitingCall) → In w (open_calls g) → w.client ≡ c → (q : ℕ)
+      → view'.queue q
+      ≡ cond (at_object g w == q) (insert_in_order (waiter g w) (view.queue q)) (view.queue q)
 
-    queued : (queue' : ℕ → List Waiter) (admitted' made' : ℕ → Bool) → Puts after queue'
-        → ((d : ℕ) → admitted' d ≡ admitted d) → ((o : ℕ) → made' o ≡ made o)
-        → IsQueued after (queues_of queue' admitted' made')
-    queued queue' admitted' made' puts admits makes =
-        record {
-          members = members-in (at_object after) (waiter after) (open_calls h) (open_calls after)
-              new.waiting queue queue' split there old
-              (puts new.waiting there new.by) k.members;
-          admits = λ d. admits d ∙ k.admits d;
-          makes = λ o. makes o ∙ k.makes o;
-        }
-      where
-        pick : (w : WaitingCall) → In w (open_calls h) ⊎ In w (new.waiting ∷ [])
-            → (w ≡ new.waiting) ⊎ In w (open_calls h)
-        pick w (inl i) = inr i
-        pick w (inr (inl e)) = inl e
-        pick w (inr (inr i)) = absurd i
+  queued : (view' : QueuesView) → Puts after view'
+      → ((d : ℕ) → view'.admitted d ≡ view.admitted d) → ((o : ℕ) → view'.made o ≡ view.made o)
+      → IsQueued after view'
+  queued view' puts admits makes =
+      record {
+        members = members-in (at_object after) (waiter after) (open_calls h) (open_calls after)
+            new.waiting view.queue view'.queue split there old
+            (puts new.waiting there new.by) k.members;
+        admits = λ d. admits d ∙ k.admits d;
+        makes = λ o. makes o ∙ k.makes o;
+      }
+    where
+      pick : (w : WaitingCall) → In w (open_calls h) ⊎ In w (new.waiting ∷ [])
+          → (w ≡ new.waiting) ⊎ In w (open_calls h)
+      pick w (inl i) = inr i
+      pick w (inr (inl e)) = inl e
+      pick w (inr (inr i)) = absurd i
 
-        split : (w : WaitingCall) → In w (open_calls after)
-            → (w ≡ new.waiting) ⊎ In w (open_calls h)
-        split w i =
-            pick w (In-append_cases w (open_calls h) (new.waiting ∷ [])
-            (subst (λ (ws : List WaitingCall). In w ws) new.opens i))
+      split : (w : WaitingCall) → In w (open_calls after)
+          → (w ≡ new.waiting) ⊎ In w (open_calls h)
+      split w i =
+          pick w (In-append_cases w (open_calls h) (new.waiting ∷ [])
+          (subst (λ (ws : List WaitingCall). In w ws) new.opens i))
 
-        old : (w : WaitingCall) → In w (open_calls h) → In w (open_calls after)
-        old w i =
-            subst (λ (ws : List WaitingCall). In w ws) (sym new.opens)
-            (In-append_left w (open_calls h) (new.waiting ∷ []) i)
+      old : (w : WaitingCall) → In w (open_calls h) → In w (open_calls after)
+      old w i =
+          subst (λ (ws : List WaitingCall). In w ws) (sym new.opens)
+          (In-append_left w (open_calls h) (new.waiting ∷ []) i)
 
-    -- after it has taken its place, the queues are those of the open calls
-    pub queued-left : (g : History) → g ≡ h ▷ Call c call None
-        → (queue' : ℕ → List Waiter) (admitted' made' : ℕ → Bool) → Puts g queue'
-        → ((d : ℕ) → admitted' d ≡ admitted d) → ((o : ℕ) → made' o ≡ made o)
-        → IsQueued g (queues_of queue' admitted' made')
-    queued-left g e queue' admitted' made' puts admits makes =
-        subst
-        (λ (x : History). Puts x queue' → IsQueued x (queues_of queue' admitted' made')) (sym e)
-        (λ ps. queued queue' admitted' made' ps admits makes) puts
+  -- after it has taken its place, the queues are those of the open calls
+  pub queued-left : (g : History) → g ≡ h ▷ Call c call None → (view' : QueuesView) → Puts g view'
+      → ((d : ℕ) → view'.admitted d ≡ view.admitted d) → ((o : ℕ) → view'.made o ≡ view.made o)
+      → IsQueued g view'
+  queued-left g e view' puts admits makes =
+      subst (λ (x : History). Puts x view' → IsQueued x view') (sym e)
+      (λ ps. queued view' ps admits makes) puts
 
-    -- the client's open call is the one that has just come
-    only-came : (w : WaitingCall) → In w (open_calls after) → w.client ≡ c → w ≡ new.waiting
-    only-came w i by =
-        pick (In-append_cases w (open_calls h) (new.waiting ∷ [])
-        (subst (λ (ws : List WaitingCall). In w ws) new.opens i))
-      where
-        pick : In w (open_calls h) ⊎ In w (new.waiting ∷ []) → w ≡ new.waiting
-        pick (inl j) =
-            absurd (none_of_client (open_calls h) c w (called h c call None s).unblocked j by)
-        pick (inr (inl e)) = e
-        pick (inr (inr e)) = absurd e
+  -- the client's open call is the one that has just come
+  only-came : (w : WaitingCall) → In w (open_calls after) → w.client ≡ c → w ≡ new.waiting
+  only-came w i by =
+      pick (In-append_cases w (open_calls h) (new.waiting ∷ [])
+      (subst (λ (ws : List WaitingCall). In w ws) new.opens i))
+    where
+      pick : In w (open_calls h) ⊎ In w (new.waiting ∷ []) → w ≡ new.waiting
+      pick (inl j) =
+          absurd (none_of_client (open_calls h) c w (called h c call None s).unblocked j by)
+      pick (inr (inl e)) = e
+      pick (inr (inr e)) = absurd e
 
-    -- a call that is left waiting takes its place at its object, with its client's priority
-    pub left-takes : (o : Open) → IsLeft h c call o → (g : History) → g ≡ h ▷ Call c call None
-        → (p : ℕ) (v : Waiter) → client h c ≡ Some p
-        → v ≡ record (waiter_by o.moved o.call) { prio = standing o.call.role p }
-        → Takes g c o.call.object v
-    left-takes o l g e p v prior stands =
-        subst (λ (x : History). Takes x c o.call.object v) (sym e) (record {
-          seat = λ w i by.
-              ap (λ (u : WaitingCall). u.object) (its w i by)
-              ∙ sym (ap (λ (m : Option Move). object_by w.role m w.object) (still w i by)
-              ∙ stays w.role w.object);
-          same = λ w i by.
-              stands
-              ∙ (ap (λ (m : Option Move). with_priority p m o.call) l.unmoved
-              ∙ (ap (λ (u : WaitingCall). with_priority p None u) (its w i by)
-              ∙ (ap (λ (k : ℕ). with_priority k None w) (level w i by)
-              ∙ ap (λ (m : Option Move). waiter_by m w) (sym (still w i by)))));
-        })
-      where
-        with_priority : ℕ → Option Move → WaitingCall → Waiter
-        with_priority k m w = record (waiter_by m w) { prio = standing w.role k }
+  -- a call that is left waiting takes its place at its object, with its client's priority
+  pub left-takes : (o : Open) → IsLeft h c call o → (g : History) → g ≡ h ▷ Call c call None
+      → (p : ℕ) (v : Waiter) → client h c ≡ Some p
+      → v ≡ record (waiter_by o.moved o.call) { prio = standing o.call.role p }
+      → Takes g c o.call.object v
+  left-takes o l g e p v prior stands =
+      subst (λ (x : History). Takes x c o.call.object v) (sym e) (record {
+        seat = λ w i by.
+            ap (λ (u : WaitingCall). u.object) (its w i by)
+            ∙ sym (ap (λ (m : Option Move). object_by w.role m w.object) (still w i by)
+            ∙ stays w.role w.object);
+        same = λ w i by.
+            stands
+            ∙ (ap (λ (m : Option Move). with_priority p m o.call) l.unmoved
+            ∙ (ap (λ (u : WaitingCall). with_priority p None u) (its w i by)
+            ∙ (ap (λ (k : ℕ). with_priority k None w) (level w i by)
+            ∙ ap (λ (m : Option Move). waiter_by m w) (sym (still w i by)))));
+      })
+    where
+      with_priority : ℕ → Option Move → WaitingCall → Waiter
+      with_priority k m w = record (waiter_by m w) { prio = standing w.role k }
 
-        one : In new.waiting (o.call ∷ []) → o.call ≡ new.waiting
-        one (inl k) = sym k
-        one (inr k) = absurd k
+      one : In new.waiting (o.call ∷ []) → o.call ≡ new.waiting
+      one (inl k) = sym k
+      one (inr k) = absurd k
 
-        its : (w : WaitingCall) → In w (open_calls after) → w.client ≡ c → o.call ≡ w
-        its w i by =
-            one (subst (λ (ws : List WaitingCall). In new.waiting ws) l.stands new.stood)
-            ∙ sym (only-came w i by)
+      its : (w : WaitingCall) → In w (open_calls after) → w.client ≡ c → o.call ≡ w
+      its w i by =
+          one (subst (λ (ws : List WaitingCall). In new.waiting ws) l.stands new.stood)
+          ∙ sym (only-came w i by)
 
-        still : (w : WaitingCall) → In w (open_calls after) → w.client ≡ c
-            → moved after w.place ≡ None
-        still w i by =
-            ap (moved h) (ap (λ (u : WaitingCall). u.place) (only-came w i by) ∙ new.at)
-            ∙ (Fresh-follows h f).moves (place h) (omega arith)
+      still : (w : WaitingCall) → In w (open_calls after) → w.client ≡ c
+          → moved after w.place ≡ None
+      still w i by =
+          ap (moved h) (ap (λ (u : WaitingCall). u.place) (only-came w i by) ∙ new.at)
+          ∙ (Fresh-follows h f).moves (place h) (omega arith)
 
-        level : (w : WaitingCall) → In w (open_calls after) → w.client ≡ c → p ≡ w.priority
-        level w i by =
-            let here : ◌≡◌ {A = Option ℕ} (Some p) (Some w.priority) =
-            sym prior ∙ (ap (client h) (sym by) ∙ open_priority after (f, s) w i) in
-            cc
+      level : (w : WaitingCall) → In w (open_calls after) → w.client ≡ c → p ≡ w.priority
+      level w i by =
+          let here : ◌≡◌ {A = Option ℕ} (Some p) (Some w.priority) =
+          sym prior ∙ (ap (client h) (sym by) ∙ open_priority after (f, s) w i) in
+          cc

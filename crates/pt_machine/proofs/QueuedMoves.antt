@@ -5,7 +5,7 @@ use Rattle.std.proofs.lemmas.Bool.Decides.{nat_tests}
 use Rattle.std.proofs.lemmas.Bool.{false≢true}
 use Rattle.std.specs.List.{AllByRecursion as Each}
 use Rattle.pt_waitq.specs.declared.waiter.Waiter.{Waiter}
-use Rattle.pt_waitq.specs.Queues.{queues_of, stands_in, without, insert_in_order}
+use Rattle.pt_waitq.specs.Queues.{QueuesView, stands_in, without, insert_in_order}
 use Rattle.pt_waitq.specs.Members.{Members}
 use Rattle.pt_waitq.proofs.MemberLemmas.{members-move}
 use Rattle.pt_waitq.proofs.CallerLemmas.{latest-after, without-stands, without-each}
@@ -37,30 +37,32 @@ pub record MovesOne (h : History) (e : Entry) (u : WaitingCall) : Type 0 where
   pub kinds : (o : ℕ) → kind_of (h ▷ e) o ≡ kind_of h o
 
 module _ (h : History) (e : Entry) (u : WaitingCall) (f : Follows (h ▷ e)) (m : MovesOne h e u)
-    (queue queue' : ℕ → List Waiter) (admitted admitted' made made' : ℕ → Bool)
-    (left : (q : ℕ) → queue' q ≡ without u.client (queue q))
-    (room : (c : ℕ) → admitted' c ≡ admitted c) (there : (o : ℕ) → made' o ≡ made o)
-    (k : IsQueued h (queues_of queue admitted made)) where
+    (view view' : QueuesView)
+    (left : (q : ℕ) → view'.queue q ≡ without u.client (view.queue q))
+    (room : (c : ℕ) → view'.admitted c ≡ view.admitted c)
+    (there : (o : ℕ) → view'.made o ≡ view.made o)
+    (k : IsQueued h view) where
   -- each waiter that is left in a queue came there before
-  left_before : (q : ℕ) → Each (λ v. v.moved < place h) (queue' q)
+  left_before : (q : ℕ) → Each (λ v. v.moved < place h) (view'.queue q)
   left_before q =
       subst (λ (vs : List Waiter). Each (λ v. v.moved < place h) vs) (sym (left q))
-      (without-each (λ (v : Waiter). v.moved < place h) u.client (queue q)
-      (waiters-below h queue f.0 k.members q))
+      (without-each (λ (v : Waiter). v.moved < place h) u.client (view.queue q)
+      (waiters-below h view.queue f.0 k.members q))
 
   -- the call that is moved may take its place after it has left its queue
-  pub can-stand-moved : CanStand (h ▷ e) u.client (queues_of queue' admitted' made')
+  pub can-stand-moved : CanStand (h ▷ e) u.client view'
   can-stand-moved =
       record {
         call = u;
         «open» = now_open;
         its = refl;
         room = room u.client ∙ (k.admits u.client ∙ open_alive h u m.known);
-        nowhere = λ q. ap (stands_in u.client) (left q) ∙ without-stands u.client (queue q);
+        nowhere = λ q. ap (stands_in u.client) (left q) ∙ without-stands u.client (view.queue q);
         there = there at ∙ (k.makes at
             ∙ (ap is_some (sym (m.kinds at)) ∙ object-there (h ▷ e) f u now_open));
-        latest = latest-after (waiter (h ▷ e) u) (queue' at)
-            (subst (λ (n : ℕ). Each (λ v. v.moved < n) (queue' at)) (sym new) (left_before at));
+        latest = latest-after (waiter (h ▷ e) u) (view'.queue at)
+            (subst (λ (n : ℕ). Each (λ v. v.moved < n) (view'.queue at)) (sym new)
+            (left_before at));
       }
     where
       at : ℕ
@@ -93,19 +95,20 @@ module _ (h : History) (e : Entry) (u : WaitingCall) (f : Follows (h ▷ e)) (m 
       one_each h f.0 w u i m.known own
 
   -- after it has taken its place, the queues are those of the history with the entry
-  pub queued-moved : (queue'' : ℕ → List Waiter) (admitted'' made'' : ℕ → Bool)
-      → ((q : ℕ) → queue'' q
-      ≡ cond (at_object (h ▷ e) u == q) (insert_in_order (waiter (h ▷ e) u) (queue' q))
-      (queue' q))
-      → ((c : ℕ) → admitted'' c ≡ admitted' c) → ((o : ℕ) → made'' o ≡ made' o)
-      → IsQueued (h ▷ e) (queues_of queue'' admitted'' made'')
-  queued-moved queue'' admitted'' made'' taken room' there' =
+  pub queued-moved : (view'' : QueuesView)
+      → ((q : ℕ) → view''.queue q
+      ≡ cond (at_object (h ▷ e) u == q) (insert_in_order (waiter (h ▷ e) u) (view'.queue q))
+      (view'.queue q))
+      → ((c : ℕ) → view''.admitted c ≡ view'.admitted c) → ((o : ℕ) → view''.made o ≡ view'.made o)
+      → IsQueued (h ▷ e) view''
+  queued-moved view'' taken room' there' =
       record {
         members = subst
-            (λ (ws : List WaitingCall). Members (at_object (h ▷ e)) (waiter (h ▷ e)) ws queue'')
+            (λ (ws : List WaitingCall).
+            Members (at_object (h ▷ e)) (waiter (h ▷ e)) ws view''.queue)
             (sym m.calls)
             (members-move (at_object h) (at_object (h ▷ e)) (waiter h) (waiter (h ▷ e))
-            (open_calls h) u queue queue'' m.known one_client
+            (open_calls h) u view.queue view''.queue m.known one_client
             (λ w i ne. (
               ap (λ (x : Option Move). object_by w.role x w.object) (other w i ne),
               ap (λ (x : Option Move). waiter_by x w) (other w i ne),
@@ -114,10 +117,10 @@ module _ (h : History) (e : Entry) (u : WaitingCall) (f : Follows (h ▷ e)) (m 
         makes = λ o. there' o ∙ (there o ∙ (k.makes o ∙ ap is_some (sym (m.kinds o))));
       }
     where
-      put : (q : ℕ) → queue'' q
+      put : (q : ℕ) → view''.queue q
           ≡ cond (at_object (h ▷ e) u == q)
-          (insert_in_order (waiter (h ▷ e) u) (without u.client (queue q)))
-          (without u.client (queue q))
+          (insert_in_order (waiter (h ▷ e) u) (without u.client (view.queue q)))
+          (without u.client (view.queue q))
       put q =
           taken q ∙ ap (λ (vs : List Waiter). cond (at_object (h ▷ e) u == q)
           (insert_in_order (waiter (h ▷ e) u) vs) vs) (left q)

@@ -7,7 +7,7 @@ use Rattle.pt_types.specs.declared.operations.ObjectClass.TheVariants.{Barrier a
 use Rattle.pt_types.specs.declared.outcome.Outcome.{Outcome}
 use Rattle.pt_waitq.specs.declared.waiter.Waiter.{Waiter}
 use Rattle.pt_waitq.specs.Members.{Members}
-use Rattle.pt_waitq.specs.Queues.{queues_of, IsInKeyOrder, without}
+use Rattle.pt_waitq.specs.Queues.{QueuesView, IsInKeyOrder, without}
 use Rattle.pt_waitq.specs.ListLemmas.{In-filter as In-kept}
 use Rattle.pt_waitq.proofs.MemberLemmas.{members-agree, members-out, filter-in}
 use Rattle.pt_model.specs.declared.entry.Entry.{Entry}
@@ -36,17 +36,16 @@ use Rattle.pt_machine.proofs.QueuedSame.{stands-same}
 
 -- after a change that moves no open call and leaves the same clients and objects, the queues are
 -- right once they have the open calls that are left
-pub queued-still : (h g : History) (queue queue' : ℕ → List Waiter)
-    (admitted admitted' made made' : ℕ → Bool) → ((j : ℕ) → moved g j ≡ moved h j)
+pub queued-still : (h g : History) (view view' : QueuesView) → ((j : ℕ) → moved g j ≡ moved h j)
     → ((c : ℕ) → is_alive g c ≡ is_alive h c) → ((o : ℕ) → kind_of g o ≡ kind_of h o)
-    → ((c : ℕ) → admitted' c ≡ admitted c) → ((o : ℕ) → made' o ≡ made o)
-    → IsQueued h (queues_of queue admitted made)
-    → Members (at_object h) (waiter h) (open_calls g) queue'
-    → IsQueued g (queues_of queue' admitted' made')
-queued-still h g queue queue' admitted admitted' made made' moves alive kinds room there k m =
+    → ((c : ℕ) → view'.admitted c ≡ view.admitted c) → ((o : ℕ) → view'.made o ≡ view.made o)
+    → IsQueued h view
+    → Members (at_object h) (waiter h) (open_calls g) view'.queue
+    → IsQueued g view'
+queued-still h g view view' moves alive kinds room there k m =
     record {
       members = members-agree (at_object h) (at_object g) (waiter h) (waiter g) (open_calls g)
-          queue' (λ w i. stands-same h g w (moves w.place)) m;
+          view'.queue (λ w i. stands-same h g w (moves w.place)) m;
       admits = λ c. room c ∙ (k.admits c ∙ sym (alive c));
       makes = λ o. there o ∙ (k.makes o ∙ ap is_some (sym (kinds o)));
     }
@@ -71,47 +70,43 @@ same_test h f u i w j = go (w.place == u.place) (w.client == u.client) refl refl
         grind (arith, nat_tests)
 
 -- an entry that ends one open call and moves none
-pub queued-out : (h : History) (e : Entry) (u : WaitingCall) (queue queue' : ℕ → List Waiter)
-    (admitted admitted' made made' : ℕ → Bool) → Follows h → In u (open_calls h)
+pub queued-out : (h : History) (e : Entry) (u : WaitingCall) (view view' : QueuesView)
+    → Follows h → In u (open_calls h)
     → open_calls (h ▷ e) ≡ filter (λ w. not (w.place == u.place)) (open_calls h)
     → ((j : ℕ) → moved (h ▷ e) j ≡ moved h j)
     → ((c : ℕ) → is_alive (h ▷ e) c ≡ is_alive h c)
     → ((o : ℕ) → kind_of (h ▷ e) o ≡ kind_of h o)
-    → ((q : ℕ) → queue' q ≡ without u.client (queue q))
-    → ((c : ℕ) → admitted' c ≡ admitted c) → ((o : ℕ) → made' o ≡ made o)
-    → IsQueued h (queues_of queue admitted made)
-    → IsQueued (h ▷ e) (queues_of queue' admitted' made')
-queued-out h e u queue queue' admitted admitted' made made' f i calls moves alive kinds gone room
-    there k =
-    queued-still h (h ▷ e) queue queue' admitted admitted' made made' moves alive kinds room there k
-    (subst (λ ws. Members (at_object h) (waiter h) ws queue')
+    → ((q : ℕ) → view'.queue q ≡ without u.client (view.queue q))
+    → ((c : ℕ) → view'.admitted c ≡ view.admitted c) → ((o : ℕ) → view'.made o ≡ view.made o)
+    → IsQueued h view → IsQueued (h ▷ e) view'
+queued-out h e u view view' f i calls moves alive kinds gone room there k =
+    queued-still h (h ▷ e) view view' moves alive kinds room there k
+    (subst (λ ws. Members (at_object h) (waiter h) ws view'.queue)
     (sym (calls ∙ filter-agree_on (λ (w : WaitingCall). not (w.place == u.place))
     (λ (w : WaitingCall). not (w.client == u.client)) (open_calls h)
     (Each-from_in (λ (w : WaitingCall). not (w.place == u.place) ≡ not (w.client == u.client))
     (open_calls h) (λ w j. ap not (same_test h f u i w j)))))
-    (members-out (at_object h) (waiter h) (open_calls h) u.client queue queue' gone k.members))
+    (members-out (at_object h) (waiter h) (open_calls h) u.client view.queue view'.queue gone
+    k.members))
 
 -- a Grant ends its call
-pub queued-grant : (h : History) (x : Outcome) (u : WaitingCall) (queue queue' : ℕ → List Waiter)
-    (admitted admitted' made made' : ℕ → Bool) → Follows h → In u (open_calls h)
-    → ((q : ℕ) → queue' q ≡ without u.client (queue q))
-    → ((c : ℕ) → admitted' c ≡ admitted c) → ((o : ℕ) → made' o ≡ made o)
-    → IsQueued h (queues_of queue admitted made)
-    → IsQueued (h ▷ Grant u.place x) (queues_of queue' admitted' made')
-queued-grant h x u queue queue' admitted admitted' made made' f i gone room there k =
-    queued-out h (Grant u.place x) u queue queue' admitted admitted' made made' f i
+pub queued-grant : (h : History) (x : Outcome) (u : WaitingCall) (view view' : QueuesView)
+    → Follows h → In u (open_calls h)
+    → ((q : ℕ) → view'.queue q ≡ without u.client (view.queue q))
+    → ((c : ℕ) → view'.admitted c ≡ view.admitted c) → ((o : ℕ) → view'.made o ≡ view.made o)
+    → IsQueued h view → IsQueued (h ▷ Grant u.place x) view'
+queued-grant h x u view view' f i gone room there k =
+    queued-out h (Grant u.place x) u view view' f i
     (open-grant h u.place x) (λ j. refl) (λ c. refl) (λ o. refl) gone room there k
 
 -- an Expire of a call that is not a wait ends it
-pub queued-expire : (h : History) (u : WaitingCall) (queue queue' : ℕ → List Waiter)
-    (admitted admitted' made made' : ℕ → Bool) → Follows h → In u (open_calls h)
-    → is_wait u.role ≡ false
-    → ((q : ℕ) → queue' q ≡ without u.client (queue q))
-    → ((c : ℕ) → admitted' c ≡ admitted c) → ((o : ℕ) → made' o ≡ made o)
-    → IsQueued h (queues_of queue admitted made)
-    → IsQueued (h ▷ Expire u.place) (queues_of queue' admitted' made')
-queued-expire h u queue queue' admitted admitted' made made' f i other gone room there k =
-    queued-out h (Expire u.place) u queue queue' admitted admitted' made made' f i
+pub queued-expire : (h : History) (u : WaitingCall) (view view' : QueuesView) → Follows h
+    → In u (open_calls h) → is_wait u.role ≡ false
+    → ((q : ℕ) → view'.queue q ≡ without u.client (view.queue q))
+    → ((c : ℕ) → view'.admitted c ≡ view.admitted c) → ((o : ℕ) → view'.made o ≡ view.made o)
+    → IsQueued h view → IsQueued (h ▷ Expire u.place) view'
+queued-expire h u view view' f i other gone room there k =
+    queued-out h (Expire u.place) u view view' f i
     (open-expire h u f i
     ∙ ap (λ b. filter (λ w. b || not (w.place == u.place)) (open_calls h)) other)
     (λ j. moved-expire h u f i j
@@ -214,17 +209,15 @@ barrier-of h f u i arrival = barrier u.role refl arrival
         let no : is_arrival (ForCond m) ≡ true = ap is_arrival (sym e) ∙ t in cc
 
 -- a Trip ends the calls at its barrier
-pub queued-trip : (h : History) (u : WaitingCall) (queue queue' : ℕ → List Waiter)
-    (admitted admitted' made made' : ℕ → Bool) → Follows h → In u (open_calls h)
-    → is_arrival u.role ≡ true
-    → ((q : ℕ) → queue' q ≡ cond (u.object == q) [] (queue q))
-    → ((c : ℕ) → admitted' c ≡ admitted c) → ((o : ℕ) → made' o ≡ made o)
-    → IsQueued h (queues_of queue admitted made)
-    → IsQueued (h ▷ Trip u.object) (queues_of queue' admitted' made')
-queued-trip h u queue queue' admitted admitted' made made' f i arrival gone room there k =
-    queued-still h (h ▷ Trip u.object) queue queue' admitted admitted' made made' (λ j. refl)
+pub queued-trip : (h : History) (u : WaitingCall) (view view' : QueuesView) → Follows h
+    → In u (open_calls h) → is_arrival u.role ≡ true
+    → ((q : ℕ) → view'.queue q ≡ cond (u.object == q) [] (view.queue q))
+    → ((c : ℕ) → view'.admitted c ≡ view.admitted c) → ((o : ℕ) → view'.made o ≡ view.made o)
+    → IsQueued h view → IsQueued (h ▷ Trip u.object) view'
+queued-trip h u view view' f i arrival gone room there k =
+    queued-still h (h ▷ Trip u.object) view view' (λ j. refl)
     (λ c. refl) (λ o. refl) room there k
-    (subst (λ ws. Members (at_object h) (waiter h) ws queue')
+    (subst (λ ws. Members (at_object h) (waiter h) ws view'.queue)
     (sym (open-trip h u.object f
     ∙ filter-agree_on (λ (w : WaitingCall). not (stands_at_barrier u.object w))
     (λ (w : WaitingCall). not (at_object h w == u.object)) (open_calls h)
@@ -232,4 +225,5 @@ queued-trip h u queue queue' admitted admitted' made made' f i arrival gone room
     ≡ not (at_object h w == u.object)) (open_calls h)
     (λ w j. ap not (sym (arrived h w.role (moved h w.place) w.object u.object (housed h f w j)
     (barrier-of h f u i arrival)))))))
-    (members-clear (at_object h) (waiter h) (open_calls h) u.object queue queue' gone k.members))
+    (members-clear (at_object h) (waiter h) (open_calls h) u.object view.queue view'.queue gone
+    k.members))

@@ -1,8 +1,8 @@
 -- Queues that are still right, since nothing on which they depend has changed.
-use Rattle.std.proofs.Common.{◌≡◌, ℕ, Bool, List, Option, is_some, Result, Ok, Err, OnOk, OnErr}
-use Rattle.std.proofs.Common.{sym, ap, ◌∙◌, subst}
+use Rattle.std.proofs.Common.{◌≡◌, ℕ, List, Option, is_some, Result, Ok, Err, OnOk, OnErr}
+use Rattle.std.proofs.Common.{refl, sym, ap, ◌∙◌, subst}
 use Rattle.pt_waitq.specs.declared.waiter.Waiter.{Waiter}
-use Rattle.pt_waitq.specs.Queues.{queues_of, IsInKeyOrder}
+use Rattle.pt_waitq.specs.Queues.{QueuesView, IsInKeyOrder}
 use Rattle.pt_waitq.specs.Members.{Members}
 use Rattle.pt_waitq.proofs.MemberLemmas.{members-agree}
 use Rattle.pt_model.specs.declared.entry.Entry.{Entry}
@@ -18,6 +18,7 @@ use Rattle.pt_types.specs.declared.outcome.Refusal.{Refusal}
 use Rattle.pt_history.specs.Stored.{Stored, past_of}
 use Rattle.pt_state.specs.declared.state.State.{State}
 use Rattle.pt_state.specs.Adds.{Adds, Stays, past}
+use Rattle.pt_state.specs.Reads.{AreTables}
 use Rattle.pt_machine.specs.Queued.{waiter_by, waiter, IsQueued}
 use Rattle.pt_history.proofs.Places.{past-pushed}
 
@@ -31,19 +32,6 @@ members-same at reading calls queue queue' same k =
       known = λ q v i. k.known q v (subst (λ (xs : List Waiter). In v xs) (same q) i);
       held = λ w i.
           subst (λ (xs : List Waiter). In (reading w) xs) (sym (same (at w))) (k.held w i);
-    }
-
--- queues that are the same as right ones are right
-pub queued-lists : (h : History) (queue queue' : ℕ → List Waiter)
-    (admitted admitted' made made' : ℕ → Bool)
-    → ((q : ℕ) → queue' q ≡ queue q) → ((c : ℕ) → admitted' c ≡ admitted c)
-    → ((o : ℕ) → made' o ≡ made o)
-    → IsQueued h (queues_of queue admitted made) → IsQueued h (queues_of queue' admitted' made')
-queued-lists h queue queue' admitted admitted' made made' lists a m k =
-    record {
-      members = members-same (at_object h) (waiter h) (open_calls h) queue queue' lists k.members;
-      admits = λ c. a c ∙ k.admits c;
-      makes = λ o. m o ∙ k.makes o;
     }
 
 -- a call whose move is unchanged waits where it did, and as it did
@@ -68,32 +56,28 @@ members-carry h g queue queue' queues calls moves k =
 
 -- one more entry, by which no call comes, goes or is moved, no client comes or goes, and no object
 -- is made or removed
-pub queued-same : (h : History) (e : Entry) (queue queue' : ℕ → List Waiter)
-    (admitted admitted' made made' : ℕ → Bool)
-    → ((q : ℕ) → queue' q ≡ queue q) → ((c : ℕ) → admitted' c ≡ admitted c)
-    → ((o : ℕ) → made' o ≡ made o)
+pub queued-same : (h : History) (e : Entry) (view : QueuesView)
     → open_calls (h ▷ e) ≡ open_calls h
     → ((w : WaitingCall) → In w (open_calls h) → moved (h ▷ e) w.place ≡ moved h w.place)
     → ((c : ℕ) → is_alive (h ▷ e) c ≡ is_alive h c)
     → ((o : ℕ) → is_some (kind_of (h ▷ e) o) ≡ is_some (kind_of h o))
-    → IsQueued h (queues_of queue admitted made)
-    → IsQueued (h ▷ e) (queues_of queue' admitted' made')
-queued-same h e queue queue' _ _ _ _ queues rooms places calls moves lives kinds k =
+    → IsQueued h view → IsQueued (h ▷ e) view
+queued-same h e view calls moves lives kinds k =
     record {
-      members = members-carry h (h ▷ e) queue queue' queues calls moves k.members;
-      admits = λ c. rooms c ∙ k.admits c ∙ sym (lives c);
-      makes = λ o. places o ∙ k.makes o ∙ sym (kinds o);
+      members = members-carry h (h ▷ e) view.queue view.queue (λ q. refl) calls moves k.members;
+      admits = λ c. k.admits c ∙ sym (lives c);
+      makes = λ o. k.makes o ∙ sym (kinds o);
     }
 
 -- no new entry, and the same queues
-pub queued-kept : (h : History) (queue queue' : ℕ → List Waiter)
-    (admitted admitted' made made' : ℕ → Bool)
-    → ((q : ℕ) → queue' q ≡ queue q) → ((c : ℕ) → admitted' c ≡ admitted c)
-    → ((o : ℕ) → made' o ≡ made o)
-    → IsQueued h (queues_of queue admitted made) → IsQueued h (queues_of queue' admitted' made')
-queued-kept h queue queue' admitted admitted' made made' queues rooms places k =
+pub queued-kept : (h : History) (view view' : QueuesView)
+    → ((q : ℕ) → view'.queue q ≡ view.queue q)
+    → ((c : ℕ) → view'.admitted c ≡ view.admitted c)
+    → ((o : ℕ) → view'.made o ≡ view.made o) → IsQueued h view → IsQueued h view'
+queued-kept h view view' queues rooms places k =
     record {
-      members = members-same (at_object h) (waiter h) (open_calls h) queue queue' queues k.members;
+      members = members-same (at_object h) (waiter h) (open_calls h) view.queue view'.queue queues
+          k.members;
       admits = λ c. rooms c ∙ k.admits c;
       makes = λ o. places o ∙ k.makes o;
     }
@@ -116,14 +100,16 @@ module _ {A : Type 0} (old new : State A) where
   past-stays s = ap past_of s.stored
 
   -- queues that are right for the history with its entry are right for the state that has it
-  pub queued-adds : (e : Entry) (queue : ℕ → List Waiter) (admitted made : ℕ → Bool)
-      → Adds old e new → IsQueued (past old ▷ e) (queues_of queue admitted made)
-      → IsQueued (past new) (queues_of queue admitted made)
-  queued-adds e queue admitted made a k =
-      subst (λ (h : History). IsQueued h (queues_of queue admitted made)) (sym (past-adds e a)) k
+  pub queued-adds : (e : Entry) (view : QueuesView) → Adds old e new → IsQueued (past old ▷ e) view
+      → IsQueued (past new) view
+  queued-adds e view a k =
+      subst (λ (h : History). IsQueued h view) (sym (past-adds e a)) k
 
-  pub queued-stays : (queue : ℕ → List Waiter) (admitted made : ℕ → Bool) → Stays old new
-      → IsQueued (past old) (queues_of queue admitted made)
-      → IsQueued (past new) (queues_of queue admitted made)
-  queued-stays queue admitted made s k =
-      subst (λ (h : History). IsQueued h (queues_of queue admitted made)) (sym (past-stays s)) k
+  pub queued-stays : (view : QueuesView) → Stays old new → IsQueued (past old) view
+      → IsQueued (past new) view
+  queued-stays view s k =
+      subst (λ (h : History). IsQueued h view) (sym (past-stays s)) k
+
+-- nothing was changed
+pub stays-same : {A : Type 0} (s : State A) → AreTables s → Stays s s
+stays-same s read = record { stored = refl; read = read; held = refl; told = refl }

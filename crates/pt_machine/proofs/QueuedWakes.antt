@@ -8,8 +8,7 @@ use Rattle.pt_types.specs.declared.outcome.Outcome.{Outcome}
 use Rattle.pt_types.specs.declared.outcome.Outcome.TheVariants.{Done}
 use Rattle.pt_types.specs.Operations.{Operation, Signals, operation, clock_of}
 use Rattle.pt_types.specs.declared.operations.ObjectClass.TheVariants.{Cond as CondClass}
-use Rattle.pt_waitq.specs.declared.waiter.Waiter.{Waiter}
-use Rattle.pt_waitq.specs.Queues.{queues_of, without, insert_in_order}
+use Rattle.pt_waitq.specs.Queues.{QueuesView, without, insert_in_order}
 use Rattle.pt_model.specs.declared.entry.Entry.{Entry}
 use Rattle.pt_model.specs.declared.entry.Entry.TheVariants.{Call, Expire}
 use Rattle.pt_model.specs.declared.entry.Cause.{Cause}
@@ -34,12 +33,13 @@ use Rattle.pt_model.proofs.Opens.{open-call, open-expire}
 use Rattle.pt_model.proofs.Moves.{moved-call, moved-expire}
 use Rattle.pt_state.specs.declared.state.State.{State}
 use Rattle.pt_records.specs.declared.clients.Open.{Open}
-use Rattle.pt_state.specs.Adds.{past, Adds, IsReadyFor}
+use Rattle.pt_state.specs.Adds.{past, Adds}
 use Rattle.pt_state.specs.Serving.{called as named, waits_in}
 use Rattle.pt_state.proofs.CallerWakes.{wakes-first, wakes-none}
 use Rattle.pt_state.proofs.ServingFinds.{waits-named}
 use Rattle.pt_state.proofs.StepLemmas.{called}
 use Rattle.pt_machine.specs.Queued.{waiter, IsQueued, CanStand}
+use Rattle.pt_machine.specs.Pushes.{CanPush, Pushes}
 use Rattle.pt_machine.proofs.QueuedSame.{past-adds, queued-same, queued-adds}
 use Rattle.pt_machine.proofs.QueuedMoves.{MovesOne, can-stand-moved, queued-moved}
 
@@ -97,13 +97,11 @@ module _ (h : History) (c : ℕ) (call : Asked) (n : List ℕ) (f : Follows h)
       }
 
   -- if there is none, the queues are unchanged
-  pub queued-unmoved : (queue : ℕ → List Waiter) (admitted made : ℕ → Bool)
-      → least (precedes_by (moved h)) (cond_waits h (moved h) n) ≡ None
-      → IsQueued h (queues_of queue admitted made)
-      → IsQueued (h ▷ Call c call (Some Done)) (queues_of queue admitted made)
-  queued-unmoved queue admitted made none k =
-      queued-same h (Call c call (Some Done)) queue queue admitted admitted made made
-      (λ q. refl) (λ b. refl) (λ o. refl) same_calls
+  pub queued-unmoved : (view : QueuesView)
+      → least (precedes_by (moved h)) (cond_waits h (moved h) n) ≡ None → IsQueued h view
+      → IsQueued (h ▷ Call c call (Some Done)) view
+  queued-unmoved view none k =
+      queued-same h (Call c call (Some Done)) view same_calls
       (λ w i. moves_by w.place None (wakes-none h n none w.place))
       (λ b. refl) (λ o. ap is_some (same_kinds o)) k
 
@@ -143,43 +141,46 @@ moves-late h u f i t =
         ∙ (ap (λ x. move_or (place h) (cause_by_expiry x (is_wait u.role)) (moved h j)) e
         ∙ ap (λ x. move_or (place h) (cause_by_expiry b x) (moved h j)) t)
 
-module _ {A : Type 0} (old new : State A) (e : Entry) (u : WaitingCall) (g : IsReadyFor old e)
-    (a : Adds old e new) (m : MovesOne (past old) e u)
-    (queue queue' : ℕ → List Waiter) (admitted admitted' made made' : ℕ → Bool)
-    (left : (q : ℕ) → queue' q ≡ without u.client (queue q))
-    (room : (c : ℕ) → admitted' c ≡ admitted c) (there : (o : ℕ) → made' o ≡ made o)
-    (k : IsQueued (past old) (queues_of queue admitted made)) where
+module _ {A : Type 0} {old new : State A} {e : Entry} {view view' : QueuesView} (u : WaitingCall)
+    (can : CanPush old view e) (a : Adds old e new) (m : MovesOne (past old) e u)
+    (left : (q : ℕ) → view'.queue q ≡ without u.client (view.queue q))
+    (room : (c : ℕ) → view'.admitted c ≡ view.admitted c)
+    (there : (o : ℕ) → view'.made o ≡ view.made o) where
   -- the call that is moved may take its place in the new state
-  pub stands-moved : CanStand (past new) u.client (queues_of queue' admitted' made')
+  pub stands-moved : CanStand (past new) u.client view'
   stands-moved =
-      subst (λ (h : History). CanStand h u.client (queues_of queue' admitted' made'))
-      (sym (past-adds old new e a))
-      (can-stand-moved (past old) e u (g.read.follows, g.step) m queue queue' admitted admitted'
-      made made' left room there k)
+      subst (λ (h : History). CanStand h u.client view') (sym (past-adds old new e a))
+      (can-stand-moved (past old) e u (can.ready.read.follows, can.ready.step) m view view' left
+      room there can.queued)
 
   -- and has taken it, so the queues are right
-  pub queued-taken : (queue'' : ℕ → List Waiter) (admitted'' made'' : ℕ → Bool)
+  pub pushes-taken : {view'' : QueuesView}
       → ((w : WaitingCall) → In w (open_calls (past new)) → w.client ≡ u.client → (q : ℕ)
-      → queue'' q
-      ≡ cond (at_object (past new) w == q) (insert_in_order (waiter (past new) w) (queue' q))
-      (queue' q))
-      → ((c : ℕ) → admitted'' c ≡ admitted' c) → ((o : ℕ) → made'' o ≡ made' o)
-      → IsQueued (past new) (queues_of queue'' admitted'' made'')
-  queued-taken queue'' admitted'' made'' taken room' there' =
-      queued-adds old new e queue'' admitted'' made'' a
-      (queued-moved (past old) e u (g.read.follows, g.step) m queue queue' admitted admitted'
-      made made' left room there k queue'' admitted'' made''
-      (put (past new) (past-adds old new e a) taken) room' there')
+      → view''.queue q
+      ≡ cond (at_object (past new) w == q) (insert_in_order (waiter (past new) w) (view'.queue q))
+      (view'.queue q))
+      → ((c : ℕ) → view''.admitted c ≡ view'.admitted c)
+      → ((o : ℕ) → view''.made o ≡ view'.made o) → Pushes old e new view''
+  pushes-taken {view''} taken room' there' =
+      record {
+        adds = a;
+        queued = queued-adds old new e view'' a
+            (queued-moved (past old) e u (can.ready.read.follows, can.ready.step) m view view' left
+            room there can.queued view'' (put (past new) (past-adds old new e a) taken) room'
+            there');
+      }
     where
       put : (h : History) → h ≡ past old ▷ e
           → ((w : WaitingCall) → In w (open_calls h) → w.client ≡ u.client → (q : ℕ)
-          → queue'' q
-          ≡ cond (at_object h w == q) (insert_in_order (waiter h w) (queue' q)) (queue' q))
-          → (q : ℕ) → queue'' q
+          → view''.queue q
+          ≡ cond (at_object h w == q) (insert_in_order (waiter h w) (view'.queue q))
+          (view'.queue q))
+          → (q : ℕ) → view''.queue q
           ≡ cond (at_object (past old ▷ e) u == q)
-          (insert_in_order (waiter (past old ▷ e) u) (queue' q)) (queue' q)
+          (insert_in_order (waiter (past old ▷ e) u) (view'.queue q)) (view'.queue q)
       put h same t q =
           subst (λ (h : History). (w : WaitingCall) → In w (open_calls h) → w.client ≡ u.client
-          → (q : ℕ) → queue'' q
-          ≡ cond (at_object h w == q) (insert_in_order (waiter h w) (queue' q)) (queue' q))
+          → (q : ℕ) → view''.queue q
+          ≡ cond (at_object h w == q) (insert_in_order (waiter h w) (view'.queue q))
+          (view'.queue q))
           same t u (subst (λ (ws : List WaitingCall). In u ws) (sym m.calls) m.known) refl q

@@ -1,7 +1,6 @@
 -- The queues and the deadlines are also those of the seal, if nothing must follow.
-use Rattle.std.proofs.Common.{◌≡◌, ℕ, Bool, false, not, ◌&&◌, List, None, refl, sym, ap, ◌∙◌}
+use Rattle.std.proofs.Common.{◌≡◌, ℕ, false, not, ◌&&◌, List, None, refl, sym, ap, ◌∙◌}
 use Rattle.std.proofs.Common.{is_some, filter}
-use Rattle.pt_waitq.specs.declared.waiter.Waiter.{Waiter}
 use Rattle.pt_types.specs.declared.time.Clock.{Clock}
 use Rattle.pt_types.specs.Times.{has_bad_deadline}
 use Rattle.pt_model.specs.Searches.{In}
@@ -17,19 +16,18 @@ use Rattle.pt_model.specs.Steps.{Follows}
 use Rattle.pt_model.proofs.Lists.{false_by}
 use Rattle.pt_model.proofs.Seats.{move-sealed}
 use Rattle.pt_model.proofs.Agreeing.{calls-sealed, filter-alike}
-use Rattle.pt_waitq.specs.Queues.{queues_of}
+use Rattle.pt_waitq.specs.Queues.{QueuesView}
 use Rattle.pt_machine.specs.Queued.{IsQueued}
 use Rattle.pt_machine.specs.Timed.{timed, is_set, setting_if, set_at, AreTimed}
 use Rattle.pt_machine.proofs.QueuedSame.{members-carry}
 use Rattle.pt_machine.proofs.NoBadDeadlines.{none-bad, written_good}
 
 -- the queues
-pub queued-seal : (h : History) (queue : ℕ → List Waiter) (admitted made : ℕ → Bool)
-    → IsQueued h (queues_of queue admitted made)
-    → IsQueued (Begin (seal h)) (queues_of queue admitted made)
-queued-seal h queue admitted made k =
+pub queued-seal : (h : History) (view : QueuesView) → IsQueued h view
+    → IsQueued (Begin (seal h)) view
+queued-seal h view k =
     record {
-      members = members-carry h (Begin (seal h)) queue queue (λ q. refl) (calls-sealed h)
+      members = members-carry h (Begin (seal h)) view.queue view.queue (λ q. refl) (calls-sealed h)
           (λ w i. move-sealed h w i) k.members;
       admits = k.admits;
       makes = k.makes;

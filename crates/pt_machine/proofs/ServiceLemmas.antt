@@ -8,8 +8,7 @@ use Rattle.std.proofs.lemmas.Bool.{and_parts}
 use Rattle.pt_types.specs.declared.call.ObjectKind.TheVariants as kind
 use Rattle.pt_types.specs.Operations.{class_of}
 use Rattle.pt_types.specs.declared.operations.ObjectClass.TheVariants.{Barrier as BarrierClass}
-use Rattle.pt_waitq.specs.declared.waiter.Waiter.{Waiter}
-use Rattle.pt_waitq.specs.Queues.{queues_of}
+use Rattle.pt_waitq.specs.Queues.{QueuesView}
 use Rattle.pt_model.specs.declared.entry.Entry.TheVariants.{Grant, Trip as TripEntry}
 use Rattle.pt_model.specs.Searches.{In}
 use Rattle.pt_model.specs.Histories.{History, ◌▷◌}
@@ -68,19 +67,17 @@ module _ {A : Type 0} (old new : State A) where
       omega (arith, a.told, e, k, trip-told (at_barrier b (open_calls (past old))))
 
   -- the queues after a full barrier tripped
-  pub trip-queued : (w : WaitingCall) (b : ℕ) (queue queue' : ℕ → List Waiter)
-      (admitted admitted' made made' : ℕ → Bool) → AreTables old → In w (open_calls (past old))
-      → is_arrival w.role ≡ true → w.object ≡ b → ((c : ℕ) → admitted' c ≡ admitted c)
-      → ((o : ℕ) → made' o ≡ made o) → IsQueued (past old) (queues_of queue admitted made)
-      → ((q : ℕ) → queue' q ≡ cond (b == q) [] (queue q)) → Adds old (TripEntry b) new
-      → IsQueued (past new) (queues_of queue' admitted' made')
-  trip-queued w b queue queue' admitted admitted' made made' read i arrival at room there k =
-      subst (λ o. ((q : ℕ) → queue' q ≡ cond (o == q) [] (queue q)) → Adds old (TripEntry o) new
-      → IsQueued (past new) (queues_of queue' admitted' made')) at
-      (λ gone a.
-      queued-adds old new (TripEntry w.object) queue' admitted' made' a
-      (queued-trip (past old) w queue queue' admitted admitted' made made' read.follows i arrival
-      gone room there k))
+  pub trip-queued : (w : WaitingCall) (b : ℕ) (view view' : QueuesView) → AreTables old
+      → In w (open_calls (past old)) → is_arrival w.role ≡ true → w.object ≡ b
+      → ((c : ℕ) → view'.admitted c ≡ view.admitted c)
+      → ((o : ℕ) → view'.made o ≡ view.made o) → IsQueued (past old) view
+      → ((q : ℕ) → view'.queue q ≡ cond (b == q) [] (view.queue q)) → Adds old (TripEntry b) new
+      → IsQueued (past new) view'
+  trip-queued w b view view' read i arrival at room there k =
+      subst (λ o. ((q : ℕ) → view'.queue q ≡ cond (o == q) [] (view.queue q))
+      → Adds old (TripEntry o) new → IsQueued (past new) view') at
+      (λ gone a. queued-adds old new (TripEntry w.object) view' a
+      (queued-trip (past old) w view view' read.follows i arrival gone room there k))
 
   -- a Trip touches no object
   pub trip-touched : (o c : Option ℕ) (b : ℕ) → Adds old (TripEntry b) new

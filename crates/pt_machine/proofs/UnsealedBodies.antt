@@ -1,8 +1,7 @@
 -- Queues, deadlines and reserved entries that are right for the seal of a history are right for the
 -- history.
-use Rattle.std.proofs.Common.{◌≡◌, ℕ, Bool, List, None, refl, sym, ap, ◌∙◌, subst}
-use Rattle.pt_waitq.specs.declared.waiter.Waiter.{Waiter}
-use Rattle.pt_waitq.specs.Queues.{queues_of}
+use Rattle.std.proofs.Common.{◌≡◌, ℕ, List, None, refl, sym, ap, ◌∙◌, subst}
+use Rattle.pt_waitq.specs.Queues.{QueuesView}
 use Rattle.pt_types.specs.declared.time.Clock.{Clock}
 use Rattle.pt_model.specs.Searches.{In}
 use Rattle.pt_model.specs.declared.waiting_call.WaitingCall.{WaitingCall}
@@ -24,13 +23,12 @@ use Rattle.pt_machine.proofs.SealedBodies.{alike}
 use Rattle.pt_machine.proofs.SealedQueues.{set-alike}
 
 -- the queues
-pub queued-unsealed : (h : History) (queue : ℕ → List Waiter) (admitted made : ℕ → Bool)
-    → IsQueued (Begin (seal h)) (queues_of queue admitted made)
-    → IsQueued h (queues_of queue admitted made)
-queued-unsealed h queue admitted made k =
+pub queued-unsealed : (h : History) (view : QueuesView) → IsQueued (Begin (seal h)) view
+    → IsQueued h view
+queued-unsealed h view k =
     record {
-      members = members-carry (Begin (seal h)) h queue queue (λ q. refl) (sym (calls-sealed h))
-          (λ w i. sym (move-sealed h w
+      members = members-carry (Begin (seal h)) h view.queue view.queue (λ q. refl)
+          (sym (calls-sealed h)) (λ w i. sym (move-sealed h w
           (subst (λ (ws : List WaitingCall). In w ws) (calls-sealed h) i))) k.members;
       admits = k.admits;
       makes = k.makes;

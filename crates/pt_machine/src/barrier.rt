@@ -5,7 +5,6 @@ ghost use Rattle.pt_model.specs.Searches.{In};
 ghost use Rattle.pt_model.specs.WaitingCall.{is_arrival as is_arrival_role};
 ghost use Rattle.pt_model.specs.Forced.{forced};
 ghost use Rattle.pt_state.specs.Adds.{Adds, IsReadyFor, past};
-ghost use Rattle.pt_machine.specs.Queued.{IsQueued};
 ghost use Rattle.pt_types.specs.Operations.{class_of};
 ghost use Rattle.pt_types.specs.declared.operations.ObjectClass.TheVariants as class;
 ghost use Rattle.pt_model.specs.Objects.{kind_of};
@@ -17,7 +16,7 @@ ghost use Rattle.pt_machine.specs.GrantedAtOnce.{AddsBoth, IsReadyAfter};
 ghost use Rattle.pt_model.specs.declared.entry.Event.TheVariants as event;
 ghost use Rattle.pt_types.specs.Operations.{Arrives, operation};
 ghost use Rattle.pt_machine.specs.Planned.{IsPlanned};
-ghost use Rattle.pt_machine.specs.Waiting.{CanWait};
+ghost use Rattle.pt_machine.specs.Pushes.{CanCall, Pushes};
 
 use crate::body::Body;
 use crate::calls::object_named;
@@ -39,10 +38,9 @@ fn arrive<Q: WaitList, A: Allocator + Copy>(
     n: &Name,
     request: &Request,
 )
-    requires can { CanWait state.old (Q.seen queues.old) c call.now request.now }
+    requires can { CanCall state.old (Q.seen queues.old) c call.now None request.now }
     requires operation { operation call.now ≡ Arrives n.now }
-    ensures adds { Adds state.old (entry.Call c call.now None) state.new }
-    ensures queued { IsQueued (past state.new) (Q.seen queues.new) }
+    ensures { Pushes state.old (entry.Call c call.now None) state.new (Q.seen queues.new) }
 {
     let place = state.stored.len();
     let b = object_named(request);

@@ -2,17 +2,17 @@
 
 ghost use Rattle.pt_state.specs.Requests.{IsRequest};
 ghost use Rattle.pt_types.specs.Shown.{shown_operation};
-ghost use Rattle.std.specs.Prelude.{IfErr, IsOk, None, OnErr, OnOk, Some, ◌≡◌, false, unwrap_or};
+ghost use Rattle.std.specs.Prelude.{None, Some, ◌≡◌, false, unwrap_or};
 ghost use Rattle.pt_types.specs.Operations.{Acquires, Arrives, Awaits, Broadcasts, Ends, Makes};
 ghost use Rattle.pt_types.specs.Operations.{Restores, Rwunlocks, Signals, Unlocks, operation};
 ghost use Rattle.pt_types.specs.declared.operations.LockKind.TheVariants.{ReadLock, WriteLock};
 ghost use Rattle.pt_model.specs.declared.entry.Entry.TheVariants as entry;
-ghost use Rattle.pt_state.specs.Adds.{Adds, IsReadyFor, Stays, past};
+ghost use Rattle.pt_state.specs.Adds.{past};
 ghost use Rattle.pt_state.specs.Outer.{makes_object};
-ghost use Rattle.pt_machine.specs.Queued.{IsQueued};
 ghost use Rattle.pt_types.specs.declared.outcome.Outcome.TheVariants as told;
 ghost use Rattle.pt_model.specs.Verdicts.{operation_verdict as said_of};
 ghost use Rattle.pt_state.specs.Reads.{AreTables};
+ghost use Rattle.pt_machine.specs.Pushes.{CanCall, Pushes, PushesOnOk};
 
 use crate::body::Body;
 use crate::cond::{push_broadcast, push_signal};
@@ -42,12 +42,11 @@ fn push_changed<Q: WaitList, A: Allocator + Copy>(
     call: &Call,
     request: &Request,
 )
-    requires ready { IsReadyFor state.old (entry.Call c call.now (Some told.Done)) }
-    requires asks { IsRequest (past state.old) (operation call.now) request.now }
-    requires queued { IsQueued (past state.old) (Q.seen queues.old) }
+    requires can { CanCall state.old (Q.seen queues.old) c call.now (Some told.Done)
+        request.now }
     requires other { makes_object (operation call.now) ≡ false }
-    ensures adds { Adds state.old (entry.Call c call.now (Some told.Done)) state.new }
-    ensures queued { IsQueued (past state.new) (Q.seen queues.new) }
+    ensures { Pushes state.old (entry.Call c call.now (Some told.Done)) state.new
+        (Q.seen queues.new) }
 {
     let object = request.object;
     match &operation_of(call) {
@@ -75,14 +74,9 @@ pub(crate) fn push_any_done<Q: WaitList, A: Allocator + Copy>(
     call: &Call,
     request: &Request,
 ) -> Result<(), Refusal>
-    requires ready { IsReadyFor state.old (entry.Call c call.now (Some told.Done)) }
-    requires asks { IsRequest (past state.old) (operation call.now) request.now }
-    requires queued { IsQueued (past state.old) (Q.seen queues.old) }
-    ensures ok { OnOk result (Adds state.old (entry.Call c call.now (Some told.Done)) state.new) }
-    ensures err { OnErr result (Stays state.old state.new) }
-    ensures reason { IfErr result (λ refusal. refusal ≡ Refusal.Enomem) }
-    ensures enough { makes_object (operation call.now) ≡ false → IsOk result }
-    ensures queued { IsQueued (past state.new) (Q.seen queues.new) }
+    requires { CanCall state.old (Q.seen queues.old) c call.now (Some told.Done) request.now }
+    ensures { PushesOnOk state.old (entry.Call c call.now (Some told.Done))
+        (makes_object (operation call.now)) result state.new (Q.seen queues.new) }
 {
     match &operation_of(call) {
         Operation::Makes(n, kind) => push_made(state, queues, c, call, n, *kind),
@@ -103,14 +97,9 @@ fn push_done<Q: WaitList, A: Allocator + Copy>(
     call: &Call,
     request: &Request,
 ) -> Result<(), Refusal>
-    requires ready { IsReadyFor state.old (entry.Call c call.now (Some told.Done)) }
-    requires asks { IsRequest (past state.old) (operation call.now) request.now }
-    requires queued { IsQueued (past state.old) (Q.seen queues.old) }
-    ensures ok { OnOk result (Adds state.old (entry.Call c call.now (Some told.Done)) state.new) }
-    ensures err { OnErr result (Stays state.old state.new) }
-    ensures reason { IfErr result (λ refusal. refusal ≡ Refusal.Enomem) }
-    ensures enough { makes_object (operation call.now) ≡ false → IsOk result }
-    ensures queued { IsQueued (past state.new) (Q.seen queues.new) }
+    requires { CanCall state.old (Q.seen queues.old) c call.now (Some told.Done) request.now }
+    ensures { PushesOnOk state.old (entry.Call c call.now (Some told.Done))
+        (makes_object (operation call.now)) result state.new (Q.seen queues.new) }
 {
     match call {
         Call::Unlock(n) => {
@@ -151,14 +140,9 @@ pub(crate) fn push_answered<Q: WaitList, A: Allocator + Copy>(
     answer: Outcome,
     request: &Request,
 ) -> Result<(), Refusal>
-    requires ready { IsReadyFor state.old (entry.Call c call.now (Some answer)) }
-    requires asks { IsRequest (past state.old) (operation call.now) request.now }
-    requires queued { IsQueued (past state.old) (Q.seen queues.old) }
-    ensures ok { OnOk result (Adds state.old (entry.Call c call.now (Some answer)) state.new) }
-    ensures err { OnErr result (Stays state.old state.new) }
-    ensures reason { IfErr result (λ refusal. refusal ≡ Refusal.Enomem) }
-    ensures enough { makes_object (operation call.now) ≡ false → IsOk result }
-    ensures queued { IsQueued (past state.new) (Q.seen queues.new) }
+    requires { CanCall state.old (Q.seen queues.old) c call.now (Some answer) request.now }
+    ensures { PushesOnOk state.old (entry.Call c call.now (Some answer))
+        (makes_object (operation call.now)) result state.new (Q.seen queues.new) }
 {
     match answer {
         Outcome::Done => push_done(state, queues, c, call, request),

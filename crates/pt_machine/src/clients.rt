@@ -1,11 +1,11 @@
 //! Clients: what a join and a death do to the queues, and which client made the call at a place.
 
-ghost use Rattle.std.specs.Prelude.{IfErr, OnErr, OnOk, ◌≡◌, ◌≤◌};
+ghost use Rattle.std.specs.Prelude.{◌≡◌, ◌≤◌, true};
 ghost use Rattle.pt_model.specs.Histories.{place};
 ghost use Rattle.pt_model.specs.Queries.{caller};
 ghost use Rattle.pt_model.specs.declared.entry.Entry.TheVariants as entry;
-ghost use Rattle.pt_state.specs.Adds.{Adds, IsReadyFor, Stays, past};
-ghost use Rattle.pt_machine.specs.Queued.{IsQueued};
+ghost use Rattle.pt_state.specs.Adds.{past};
+ghost use Rattle.pt_machine.specs.Pushes.{CanPush, Pushes, PushesOnOk};
 
 use crate::body::Body;
 use pt_state::State;
@@ -20,13 +20,10 @@ pub(crate) fn push_join<Q: WaitList, A: Allocator + Copy>(
     queues: &mut Q,
     priority: Priority,
 ) -> Result<(), Refusal>
-    requires ready { IsReadyFor state.old (entry.Join (place (past state.old)) priority) }
-    requires queued { IsQueued (past state.old) (Q.seen queues.old) }
-    ensures ok { OnOk result
-        (Adds state.old (entry.Join (place (past state.old)) priority) state.new) }
-    ensures err { OnErr result (Stays state.old state.new) }
-    ensures reason { IfErr result (λ refusal. refusal ≡ Refusal.Enomem) }
-    ensures queued { IsQueued (past state.new) (Q.seen queues.new) }
+    requires { CanPush state.old (Q.seen queues.old)
+        (entry.Join (place (past state.old)) priority) }
+    ensures { PushesOnOk state.old (entry.Join (place (past state.old)) priority) true result
+        state.new (Q.seen queues.new) }
 {
     let c = ClientId(state.stored.len());
     if let Err(refusal) = queues.admit(c) {
@@ -47,10 +44,8 @@ pub(crate) fn push_death<Q: WaitList, A: Allocator + Copy>(
     queues: &mut Q,
     c: ClientId,
 )
-    requires ready { IsReadyFor state.old (entry.Death c) }
-    requires queued { IsQueued (past state.old) (Q.seen queues.old) }
-    ensures adds { Adds state.old (entry.Death c) state.new }
-    ensures queued { IsQueued (past state.new) (Q.seen queues.new) }
+    requires { CanPush state.old (Q.seen queues.old) (entry.Death c) }
+    ensures { Pushes state.old (entry.Death c) state.new (Q.seen queues.new) }
 {
     queues.remove(c);
     queues.dismiss(c);

@@ -1,10 +1,8 @@
 //! Pushing any entry with its deadline, which is set when a call waits and dropped when it ends.
 
-ghost use Rattle.pt_state.specs.Requests.{IsRequest};
 ghost use Rattle.pt_model.specs.declared.entry.Entry.TheVariants as entry_is;
-ghost use Rattle.pt_state.specs.Adds.{Adds, IsReadyFor, Stays, past};
-ghost use Rattle.pt_machine.specs.Queued.{IsQueued};
-ghost use Rattle.std.specs.Prelude.{IfErr, IsOk, None, OnErr, OnOk, Some, ℕ, ◌&&◌, ◌==◌};
+ghost use Rattle.pt_state.specs.Adds.{past};
+ghost use Rattle.std.specs.Prelude.{None, Some, ℕ, ◌&&◌, ◌==◌};
 ghost use Rattle.std.specs.Prelude.{◌≡◌, false, if◌then◌else◌, true};
 ghost use Rattle.pt_types.specs.Operations.{operation};
 ghost use Rattle.pt_machine.specs.Timed.{AreTimed, asked, can_move_waits as can_move_waits_in};
@@ -21,6 +19,7 @@ ghost use Rattle.pt_state.specs.Serving.{called};
 ghost use Rattle.pt_model.specs.Searches.{In};
 ghost use Rattle.pt_model.specs.Forced.{service};
 ghost use Rattle.pt_model.specs.WaitingCall.{is_arrival, mutex_of};
+ghost use Rattle.pt_machine.specs.Pushes.{CanCall, CanPush, Pushes, PushesOnOk};
 
 use crate::waiting::push_waiting;
 use crate::{calls, clients, forced};
@@ -41,10 +40,8 @@ fn push_moment<Q: WaitList, A: Allocator + Copy>(
     clock: Clock,
     moment: Moment,
 )
-    requires ready { IsReadyFor state.old (entry_is.Moment clock moment) }
-    requires queued { IsQueued (past state.old) (Q.seen queues.old) }
-    ensures adds { Adds state.old (entry_is.Moment clock moment) state.new }
-    ensures queued { IsQueued (past state.new) (Q.seen queues.new) }
+    requires { CanPush state.old (Q.seen queues.old) (entry_is.Moment clock moment) }
+    ensures { Pushes state.old (entry_is.Moment clock moment) state.new (Q.seen queues.new) }
 {
     state.push_moment(clock, moment);
 }
@@ -148,16 +145,12 @@ fn push_timed<Q: WaitList, A: Allocator + Copy>(
     deadline: Deadline,
     request: &Request,
 ) -> Result<(), Refusal>
-    requires ready { IsReadyFor state.old (entry_is.Call c call.now None) }
-    requires asks { IsRequest (past state.old) (operation call.now) request.now }
-    requires queued { IsQueued (past state.old) (Q.seen queues.old) }
+    requires can { CanCall state.old (Q.seen queues.old) c call.now None request.now }
     requires timed { AreTimed (past state.old) timers.old }
     requires deadline { asked (operation call.now) ≡ Some deadline }
     requires good { is_bad_deadline deadline ≡ false }
-    ensures ok { OnOk result (Adds state.old (entry_is.Call c call.now None) state.new) }
-    ensures err { OnErr result (Stays state.old state.new) }
-    ensures reason { IfErr result (λ refusal. refusal ≡ Refusal.Enomem) }
-    ensures queued { IsQueued (past state.new) (Q.seen queues.new) }
+    ensures pushes { PushesOnOk state.old (entry_is.Call c call.now None)
+        (needs_memory_to_wait (operation call.now)) result state.new (Q.seen queues.new) }
     ensures timed { AreTimed (past state.new) timers.new }
 {
     let place = state.stored.len();
@@ -185,15 +178,10 @@ fn push_left<Q: WaitList, A: Allocator + Copy>(
     call: &Call,
     request: &Request,
 ) -> Result<(), Refusal>
-    requires ready { IsReadyFor state.old (entry_is.Call c call.now None) }
-    requires asks { IsRequest (past state.old) (operation call.now) request.now }
-    requires queued { IsQueued (past state.old) (Q.seen queues.old) }
+    requires can { CanCall state.old (Q.seen queues.old) c call.now None request.now }
     requires timed { AreTimed (past state.old) timers.old }
-    ensures ok { OnOk result (Adds state.old (entry_is.Call c call.now None) state.new) }
-    ensures err { OnErr result (Stays state.old state.new) }
-    ensures reason { IfErr result (λ refusal. refusal ≡ Refusal.Enomem) }
-    ensures enough { needs_memory_to_wait (operation call.now) ≡ false → IsOk result }
-    ensures queued { IsQueued (past state.new) (Q.seen queues.new) }
+    ensures pushes { PushesOnOk state.old (entry_is.Call c call.now None)
+        (needs_memory_to_wait (operation call.now)) result state.new (Q.seen queues.new) }
     ensures timed { AreTimed (past state.new) timers.new }
 {
     match good_deadline(call) {
@@ -221,15 +209,10 @@ fn push_answered<Q: WaitList, A: Allocator + Copy>(
     answer: Outcome,
     request: &Request,
 ) -> Result<(), Refusal>
-    requires ready { IsReadyFor state.old (entry_is.Call c call.now (Some answer)) }
-    requires asks { IsRequest (past state.old) (operation call.now) request.now }
-    requires queued { IsQueued (past state.old) (Q.seen queues.old) }
+    requires can { CanCall state.old (Q.seen queues.old) c call.now (Some answer) request.now }
     requires timed { AreTimed (past state.old) timers.old }
-    ensures ok { OnOk result (Adds state.old (entry_is.Call c call.now (Some answer)) state.new) }
-    ensures err { OnErr result (Stays state.old state.new) }
-    ensures reason { IfErr result (λ refusal. refusal ≡ Refusal.Enomem) }
-    ensures enough { makes_object (operation call.now) ≡ false → IsOk result }
-    ensures queued { IsQueued (past state.new) (Q.seen queues.new) }
+    ensures pushes { PushesOnOk state.old (entry_is.Call c call.now (Some answer))
+        (makes_object (operation call.now)) result state.new (Q.seen queues.new) }
     ensures timed { AreTimed (past state.new) timers.new }
 {
     let place = state.stored.len();
@@ -249,11 +232,9 @@ fn push_death<Q: WaitList, A: Allocator + Copy>(
     timers: &mut Timers<A>,
     c: ClientId,
 )
-    requires ready { IsReadyFor state.old (entry_is.Death c) }
-    requires queued { IsQueued (past state.old) (Q.seen queues.old) }
+    requires can { CanPush state.old (Q.seen queues.old) (entry_is.Death c) }
     requires timed { AreTimed (past state.old) timers.old }
-    ensures adds { Adds state.old (entry_is.Death c) state.new }
-    ensures queued { IsQueued (past state.new) (Q.seen queues.new) }
+    ensures pushes { Pushes state.old (entry_is.Death c) state.new (Q.seen queues.new) }
     ensures timed { AreTimed (past state.new) timers.new }
 {
     if let Some(open) = state.open_of(c) {
@@ -274,15 +255,10 @@ fn push_call<Q: WaitList, A: Allocator + Copy>(
     answer: Option<Outcome>,
     request: &Request,
 ) -> Result<(), Refusal>
-    requires ready { IsReadyFor state.old (entry_is.Call c call.now answer) }
-    requires asks { IsRequest (past state.old) (operation call.now) request.now }
-    requires queued { IsQueued (past state.old) (Q.seen queues.old) }
+    requires can { CanCall state.old (Q.seen queues.old) c call.now answer request.now }
     requires timed { AreTimed (past state.old) timers.old }
-    ensures ok { OnOk result (Adds state.old (entry_is.Call c call.now answer) state.new) }
-    ensures err { OnErr result (Stays state.old state.new) }
-    ensures reason { IfErr result (λ refusal. refusal ≡ Refusal.Enomem) }
-    ensures enough { needs_memory (entry_is.Call c call.now answer) ≡ false → IsOk result }
-    ensures queued { IsQueued (past state.new) (Q.seen queues.new) }
+    ensures pushes { PushesOnOk state.old (entry_is.Call c call.now answer)
+        (needs_memory (entry_is.Call c call.now answer)) result state.new (Q.seen queues.new) }
     ensures timed { AreTimed (past state.new) timers.new }
 {
     match answer {
@@ -303,17 +279,12 @@ pub(crate) fn push_outer<Q: WaitList, A: Allocator + Copy>(
     answer: Option<Outcome>,
     request: &Request,
 ) -> Result<(), Refusal>
-    requires ready { IsReadyFor state.old (entry_with (past state.old) event.now answer) }
+    requires can { CanPush state.old (Q.seen queues.old)
+        (entry_with (past state.old) event.now answer) }
     requires asks { HasRequest (past state.old) event.now request.now }
-    requires queued { IsQueued (past state.old) (Q.seen queues.old) }
     requires timed { AreTimed (past state.old) timers.old }
-    ensures ok { OnOk result
-        (Adds state.old (entry_with (past state.old) event.now answer) state.new) }
-    ensures err { OnErr result (Stays state.old state.new) }
-    ensures reason { IfErr result (λ refusal. refusal ≡ Refusal.Enomem) }
-    ensures enough { needs_memory (entry_with (past state.old) event.now answer) ≡ false
-        → IsOk result }
-    ensures queued { IsQueued (past state.new) (Q.seen queues.new) }
+    ensures pushes { let e = entry_with (past state.old) event.now answer in
+        PushesOnOk state.old e (needs_memory e) result state.new (Q.seen queues.new) }
     ensures timed { AreTimed (past state.new) timers.new }
 {
     match event {
@@ -342,14 +313,14 @@ pub(crate) fn push_granted<Q: WaitList, A: Allocator + Copy>(
     timers: &mut Timers<A>,
     found: &Open,
 )
-    requires ready { IsReadyFor state.old (service (past state.old) (called found.now)) }
-    requires queued { IsQueued (past state.old) (Q.seen queues.old) }
+    requires can { CanPush state.old (Q.seen queues.old)
+        (service (past state.old) (called found.now)) }
     requires timed { AreTimed (past state.old) timers.old }
     requires known { In found.now (opens_of state.old.clients) }
     requires other { is_arrival (called found.now).role ≡ false }
     requires plain { mutex_of (called found.now).role found.now.call.object ≡ None }
-    ensures adds { Adds state.old (service (past state.old) (called found.now)) state.new }
-    ensures queued { IsQueued (past state.new) (Q.seen queues.new) }
+    ensures pushes { Pushes state.old (service (past state.old) (called found.now)) state.new
+        (Q.seen queues.new) }
     ensures timed { AreTimed (past state.new) timers.new }
 {
     forced::push_granted(state, queues, found);

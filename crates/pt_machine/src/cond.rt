@@ -10,7 +10,7 @@ ghost use Rattle.pt_types.specs.declared.operations.ObjectClass.TheVariants.{Mut
 ghost use Rattle.pt_model.specs.declared.entry.Entry.TheVariants as entry;
 ghost use Rattle.pt_model.specs.Searches.{In, least};
 ghost use Rattle.pt_model.specs.Moves.{cond_waits, moved, precedes, precedes_by, waiting_at};
-ghost use Rattle.pt_state.specs.Adds.{Adds, IsReadyFor, past};
+ghost use Rattle.pt_state.specs.Adds.{past};
 ghost use Rattle.pt_state.specs.Serving.{called, waits_in};
 ghost use Rattle.pt_machine.specs.Queued.{IsQueued};
 ghost use Rattle.pt_model.specs.WaitingCall.{is_wait as is_wait_role};
@@ -21,6 +21,7 @@ ghost use Rattle.pt_model.specs.Answers.{open_calls};
 ghost use Rattle.pt_state.specs.Reads.{AreTables};
 ghost use Rattle.pt_model.specs.Verdicts.{bound_by, cond_view, operation_verdict as said_of};
 ghost use Rattle.pt_types.specs.Limits.{most_clients};
+ghost use Rattle.pt_machine.specs.Pushes.{CanPush, Pushes};
 
 use crate::body::Body;
 use crate::queues::take_place;
@@ -42,14 +43,14 @@ fn push_wake<Q: WaitList, A: Allocator + Copy>(
     n: &Name,
     first: &Open,
 )
-    requires ready { IsReadyFor state.old (entry.Call c call.now (Some told.Done)) }
-    requires queued { IsQueued (past state.old) (Q.seen queues.old) }
+    requires can { CanPush state.old (Q.seen queues.old)
+        (entry.Call c call.now (Some told.Done)) }
     requires operation { operation call.now ≡ Signals n.now }
     requires first { Some (called first.now)
         ≡ least (precedes_by (moved (past state.old)))
         (cond_waits (past state.old) (moved (past state.old)) n.now) }
-    ensures adds { Adds state.old (entry.Call c call.now (Some told.Done)) state.new }
-    ensures queued { IsQueued (past state.new) (Q.seen queues.new) }
+    ensures { Pushes state.old (entry.Call c call.now (Some told.Done)) state.new
+        (Q.seen queues.new) }
 {
     let woken = first.call.client;
     state.push_woken(c, call, n, Some(*first));
@@ -66,12 +67,12 @@ pub(crate) fn push_signal<Q: WaitList, A: Allocator + Copy>(
     n: &Name,
     object: Option<ObjectId>,
 )
-    requires ready { IsReadyFor state.old (entry.Call c call.now (Some told.Done)) }
-    requires queued { IsQueued (past state.old) (Q.seen queues.old) }
+    requires can { CanPush state.old (Q.seen queues.old)
+        (entry.Call c call.now (Some told.Done)) }
     requires operation { operation call.now ≡ Signals n.now }
     requires found { object ≡ find (past state.old) n.now CondClass }
-    ensures adds { Adds state.old (entry.Call c call.now (Some told.Done)) state.new }
-    ensures queued { IsQueued (past state.new) (Q.seen queues.new) }
+    ensures { Pushes state.old (entry.Call c call.now (Some told.Done)) state.new
+        (Q.seen queues.new) }
 {
     let q = object.unwrap();
     match first_waiting(queues, state, q).copied() {
@@ -104,12 +105,12 @@ pub(crate) fn push_broadcast<Q: WaitList, A: Allocator + Copy>(
     n: &Name,
     object: Option<ObjectId>,
 )
-    requires ready { IsReadyFor state.old (entry.Call c call.now (Some told.Done)) }
-    requires queued { IsQueued (past state.old) (Q.seen queues.old) }
+    requires can { CanPush state.old (Q.seen queues.old)
+        (entry.Call c call.now (Some told.Done)) }
     requires operation { operation call.now ≡ Broadcasts n.now }
     requires found { object ≡ find (past state.old) n.now CondClass }
-    ensures adds { Adds state.old (entry.Call c call.now (Some told.Done)) state.new }
-    ensures queued { IsQueued (past state.new) (Q.seen queues.new) }
+    ensures { Pushes state.old (entry.Call c call.now (Some told.Done)) state.new
+        (Q.seen queues.new) }
 {
     let q = object.unwrap();
     let place = state.stored.len();
@@ -126,12 +127,11 @@ pub(crate) fn push_late_wait<Q: WaitList, A: Allocator + Copy>(
     queues: &mut Q,
     found: &Open,
 )
-    requires ready { IsReadyFor state.old (entry.Expire found.now.call.place) }
-    requires queued { IsQueued (past state.old) (Q.seen queues.old) }
+    requires can { CanPush state.old (Q.seen queues.old) (entry.Expire found.now.call.place) }
     requires known { In found.now (opens_of state.old.clients) }
     requires wait { is_wait_role (called found.now).role ≡ true }
-    ensures adds { Adds state.old (entry.Expire found.now.call.place) state.new }
-    ensures queued { IsQueued (past state.new) (Q.seen queues.new) }
+    ensures { Pushes state.old (entry.Expire found.now.call.place) state.new
+        (Q.seen queues.new) }
 {
     let late = found.call.client;
     state.push_expire(found);

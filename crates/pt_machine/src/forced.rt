@@ -17,12 +17,12 @@ ghost use Rattle.pt_model.specs.Forced.{is_served_before as is_served_before_in,
 ghost use Rattle.pt_state.specs.Adds.{Adds, IsReadyFor, past};
 ghost use Rattle.pt_records.specs.Callers.{opens_of};
 ghost use Rattle.pt_state.specs.Serving.{called};
-ghost use Rattle.pt_machine.specs.Queued.{IsQueued};
 ghost use Rattle.pt_machine.specs.Services.{IsService, Serves};
 ghost use Rattle.pt_model.specs.Forced.{service as service_of};
 ghost use Rattle.pt_model.specs.declared.entry.Entry.TheVariants as entry;
 ghost use Rattle.pt_state.specs.Reads.{AreTables};
 ghost use Rattle.pt_model.specs.Answers.{open_calls};
+ghost use Rattle.pt_machine.specs.Pushes.{CanPush, Pushes};
 
 use crate::body::Body;
 use crate::candidates::Service;
@@ -58,13 +58,13 @@ pub(crate) fn push_granted<Q: WaitList, A: Allocator + Copy>(
     queues: &mut Q,
     found: &Open,
 )
-    requires ready { IsReadyFor state.old (service (past state.old) (called found.now)) }
-    requires queued { IsQueued (past state.old) (Q.seen queues.old) }
+    requires can { CanPush state.old (Q.seen queues.old)
+        (service (past state.old) (called found.now)) }
     requires known { In found.now (opens_of state.old.clients) }
     requires other { is_arrival_role (called found.now).role ≡ false }
     requires plain { mutex_of_role (called found.now).role found.now.call.object ≡ None }
-    ensures adds { Adds state.old (service (past state.old) (called found.now)) state.new }
-    ensures queued { IsQueued (past state.new) (Q.seen queues.new) }
+    ensures { Pushes state.old (service (past state.old) (called found.now)) state.new
+        (Q.seen queues.new) }
 {
     state.push_granted(found);
     queues.remove(found.call.client);
@@ -77,12 +77,11 @@ fn push_late_lock<Q: WaitList, A: Allocator + Copy>(
     queues: &mut Q,
     found: &Open,
 )
-    requires ready { IsReadyFor state.old (entry.Expire found.now.call.place) }
-    requires queued { IsQueued (past state.old) (Q.seen queues.old) }
+    requires can { CanPush state.old (Q.seen queues.old) (entry.Expire found.now.call.place) }
     requires known { In found.now (opens_of state.old.clients) }
     requires other { is_wait_role (called found.now).role ≡ false }
-    ensures adds { Adds state.old (entry.Expire found.now.call.place) state.new }
-    ensures queued { IsQueued (past state.new) (Q.seen queues.new) }
+    ensures { Pushes state.old (entry.Expire found.now.call.place) state.new
+        (Q.seen queues.new) }
 {
     state.push_expire(found);
     queues.remove(found.call.client);
@@ -94,11 +93,10 @@ pub(crate) fn push_expire<Q: WaitList, A: Allocator + Copy>(
     queues: &mut Q,
     found: &Open,
 )
-    requires ready { IsReadyFor state.old (entry.Expire found.now.call.place) }
-    requires queued { IsQueued (past state.old) (Q.seen queues.old) }
+    requires can { CanPush state.old (Q.seen queues.old) (entry.Expire found.now.call.place) }
     requires known { In found.now (opens_of state.old.clients) }
-    ensures adds { Adds state.old (entry.Expire found.now.call.place) state.new }
-    ensures queued { IsQueued (past state.new) (Q.seen queues.new) }
+    ensures { Pushes state.old (entry.Expire found.now.call.place) state.new
+        (Q.seen queues.new) }
 {
     if is_wait(found.call.role) {
         push_late_wait(state, queues, found);

@@ -1,17 +1,16 @@
 //! Objects: calls that make and destroy them, with their queues.
 
-ghost use Rattle.std.specs.Prelude.{IfErr, IsOk, OnErr, OnOk, Some, ◌≡◌, false, option_map};
+ghost use Rattle.std.specs.Prelude.{Some, ◌≡◌, option_map};
 ghost use Rattle.pt_types.specs.declared.outcome.Outcome.TheVariants as told;
 ghost use Rattle.pt_types.specs.Operations.{Ends, Makes, class_of, operation};
 ghost use Rattle.pt_model.specs.declared.entry.Entry.TheVariants as entry;
-ghost use Rattle.pt_state.specs.Adds.{Adds, IsReadyFor, Stays, past};
+ghost use Rattle.pt_state.specs.Adds.{past};
 ghost use Rattle.pt_state.specs.Outer.{makes_object};
-ghost use Rattle.pt_state.specs.Requests.{IsRequest};
-ghost use Rattle.pt_machine.specs.Queued.{IsQueued};
 ghost use Rattle.pt_types.specs.ObjectTable.{destroy_verdict as destroy_table};
 ghost use Rattle.pt_model.specs.Objects.{find as find_in, kind_of};
 ghost use Rattle.pt_model.specs.Verdicts.{is_busy as is_busy_in, on};
 ghost use Rattle.pt_state.specs.Reads.{AreTables};
+ghost use Rattle.pt_machine.specs.Pushes.{CanCall, CanPush, Pushes, PushesOnOk};
 
 use crate::body::Body;
 use crate::calls::push_any_done;
@@ -33,13 +32,11 @@ pub(crate) fn push_made<Q: WaitList, A: Allocator + Copy>(
     n: &Name,
     kind: ObjectKind,
 ) -> Result<(), Refusal>
-    requires ready { IsReadyFor state.old (entry.Call c call.now (Some told.Done)) }
-    requires queued { IsQueued (past state.old) (Q.seen queues.old) }
+    requires can { CanPush state.old (Q.seen queues.old)
+        (entry.Call c call.now (Some told.Done)) }
     requires operation { operation call.now ≡ Makes n.now kind }
-    ensures ok { OnOk result (Adds state.old (entry.Call c call.now (Some told.Done)) state.new) }
-    ensures err { OnErr result (Stays state.old state.new) }
-    ensures reason { IfErr result (λ refusal. refusal ≡ Refusal.Enomem) }
-    ensures queued { IsQueued (past state.new) (Q.seen queues.new) }
+    ensures { PushesOnOk state.old (entry.Call c call.now (Some told.Done))
+        (makes_object (operation call.now)) result state.new (Q.seen queues.new) }
 {
     let o = ObjectId(state.stored.len());
     if let Err(refusal) = queues.make(o) {
@@ -66,12 +63,12 @@ pub(crate) fn push_ended<Q: WaitList, A: Allocator + Copy>(
     class: ObjectClass,
     object: Option<ObjectId>,
 )
-    requires ready { IsReadyFor state.old (entry.Call c call.now (Some told.Done)) }
-    requires queued { IsQueued (past state.old) (Q.seen queues.old) }
+    requires can { CanPush state.old (Q.seen queues.old)
+        (entry.Call c call.now (Some told.Done)) }
     requires operation { operation call.now ≡ Ends n.now class }
     requires found { object ≡ find_in (past state.old) n.now class }
-    ensures adds { Adds state.old (entry.Call c call.now (Some told.Done)) state.new }
-    ensures queued { IsQueued (past state.new) (Q.seen queues.new) }
+    ensures { Pushes state.old (entry.Call c call.now (Some told.Done)) state.new
+        (Q.seen queues.new) }
 {
     let o = object.unwrap();
     queues.discard(o);
@@ -87,14 +84,9 @@ pub(crate) fn push_new_object<Q: WaitList, A: Allocator + Copy>(
     call: &Call,
     request: &Request,
 ) -> Result<(), Refusal>
-    requires ready { IsReadyFor state.old (entry.Call c call.now (Some told.Done)) }
-    requires asks { IsRequest (past state.old) (operation call.now) request.now }
-    requires queued { IsQueued (past state.old) (Q.seen queues.old) }
-    ensures ok { OnOk result (Adds state.old (entry.Call c call.now (Some told.Done)) state.new) }
-    ensures err { OnErr result (Stays state.old state.new) }
-    ensures reason { IfErr result (λ refusal. refusal ≡ Refusal.Enomem) }
-    ensures enough { makes_object (operation call.now) ≡ false → IsOk result }
-    ensures queued { IsQueued (past state.new) (Q.seen queues.new) }
+    requires { CanCall state.old (Q.seen queues.old) c call.now (Some told.Done) request.now }
+    ensures { PushesOnOk state.old (entry.Call c call.now (Some told.Done))
+        (makes_object (operation call.now)) result state.new (Q.seen queues.new) }
 {
     match &operation_of(call) {
         Operation::Makes(n, kind) => push_made(state, queues, c, call, n, *kind),
@@ -111,14 +103,9 @@ pub(crate) fn push_ended_object<Q: WaitList, A: Allocator + Copy>(
     call: &Call,
     request: &Request,
 ) -> Result<(), Refusal>
-    requires ready { IsReadyFor state.old (entry.Call c call.now (Some told.Done)) }
-    requires asks { IsRequest (past state.old) (operation call.now) request.now }
-    requires queued { IsQueued (past state.old) (Q.seen queues.old) }
-    ensures ok { OnOk result (Adds state.old (entry.Call c call.now (Some told.Done)) state.new) }
-    ensures err { OnErr result (Stays state.old state.new) }
-    ensures reason { IfErr result (λ refusal. refusal ≡ Refusal.Enomem) }
-    ensures enough { makes_object (operation call.now) ≡ false → IsOk result }
-    ensures queued { IsQueued (past state.new) (Q.seen queues.new) }
+    requires { CanCall state.old (Q.seen queues.old) c call.now (Some told.Done) request.now }
+    ensures { PushesOnOk state.old (entry.Call c call.now (Some told.Done))
+        (makes_object (operation call.now)) result state.new (Q.seen queues.new) }
 {
     match &operation_of(call) {
         Operation::Ends(n, class) => {

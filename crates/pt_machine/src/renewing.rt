@@ -5,7 +5,7 @@ ghost use Rattle.std.specs.Prelude.{nat_lt, ◌&&◌, ◌+◌, ◌<◌, ◌≡�
 ghost use Rattle.pt_types.specs.Limits.{most_places};
 ghost use Rattle.pt_model.specs.Answers.{told};
 ghost use Rattle.pt_model.specs.Forced.{forced};
-ghost use Rattle.pt_model.specs.Histories.{Begin, held as held_in, is_forced, place, ◌▷◌};
+ghost use Rattle.pt_model.specs.Histories.{Begin, held as held_in, place};
 ghost use Rattle.pt_model.specs.Room.{entry_for};
 ghost use Rattle.pt_model.specs.Seals.{seal};
 ghost use Rattle.pt_model.specs.Steps.{Follows, Step};

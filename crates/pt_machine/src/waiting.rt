@@ -1,10 +1,13 @@
 //! Calls that wait: the one way by which a call is left waiting.
 
-ghost use Rattle.std.specs.Prelude.{Some, ◌≡◌, true};
+ghost use Rattle.std.specs.Prelude.{None, Some, ◌≡◌, true};
 ghost use Rattle.pt_model.specs.Clients.{client, is_alive};
 ghost use Rattle.pt_state.specs.Adds.{past};
 ghost use Rattle.pt_state.specs.Reads.{AreTables};
-ghost use Rattle.pt_machine.specs.Waiting.{CanWait, IsLeftWaiting};
+ghost use Rattle.pt_machine.specs.Pushes.{CanCall, PushesOnOk};
+ghost use Rattle.pt_model.specs.declared.entry.Entry.TheVariants as entry;
+ghost use Rattle.pt_state.specs.Outer.{asks_to_read};
+ghost use Rattle.pt_types.specs.Operations.{operation};
 
 use crate::queues::waiter_of;
 use pt_records::Open;
@@ -39,8 +42,9 @@ fn push_here<Q: WaitList, A: Allocator + Copy>(
     call: &Call,
     request: &Request,
 ) -> Result<(), Refusal>
-    requires { CanWait state.old (Q.seen queues.old) c call.now request.now }
-    ensures { IsLeftWaiting state.old c call.now result state.new (Q.seen queues.new) }
+    requires { CanCall state.old (Q.seen queues.old) c call.now None request.now }
+    ensures { PushesOnOk state.old (entry.Call c call.now None) (asks_to_read (operation call.now))
+        result state.new (Q.seen queues.new) }
 {
     let open = state.waiting(c, call, request);
     let o = object_in(&open);
@@ -63,8 +67,9 @@ fn push_any<Q: WaitList, A: Allocator + Copy>(
     call: &Call,
     request: &Request,
 ) -> Result<(), Refusal>
-    requires { CanWait state.old (Q.seen queues.old) c call.now request.now }
-    ensures { IsLeftWaiting state.old c call.now result state.new (Q.seen queues.new) }
+    requires { CanCall state.old (Q.seen queues.old) c call.now None request.now }
+    ensures { PushesOnOk state.old (entry.Call c call.now None) (asks_to_read (operation call.now))
+        result state.new (Q.seen queues.new) }
 {
     push_here(state, queues, c, call, request)
 }
@@ -91,8 +96,9 @@ fn push_as<const WORD: u8, Q: WaitList, A: Allocator + Copy>(
     call: &Call,
     request: &Request,
 ) -> Result<(), Refusal>
-    requires { CanWait state.old (Q.seen queues.old) c call.now request.now }
-    ensures { IsLeftWaiting state.old c call.now result state.new (Q.seen queues.new) }
+    requires { CanCall state.old (Q.seen queues.old) c call.now None request.now }
+    ensures { PushesOnOk state.old (entry.Call c call.now None) (asks_to_read (operation call.now))
+        result state.new (Q.seen queues.new) }
 {
     if word_of(call) == WORD {
         return push_here(state, queues, c, call, request);
@@ -110,8 +116,9 @@ pub(crate) fn push_waiting<Q: WaitList, A: Allocator + Copy>(
     call: &Call,
     request: &Request,
 ) -> Result<(), Refusal>
-    requires { CanWait state.old (Q.seen queues.old) c call.now request.now }
-    ensures { IsLeftWaiting state.old c call.now result state.new (Q.seen queues.new) }
+    requires { CanCall state.old (Q.seen queues.old) c call.now None request.now }
+    ensures { PushesOnOk state.old (entry.Call c call.now None) (asks_to_read (operation call.now))
+        result state.new (Q.seen queues.new) }
 {
     match word_of(call) {
         1 => push_as::<1, Q, A>(state, queues, c, call, request),

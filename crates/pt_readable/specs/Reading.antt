@@ -1,18 +1,21 @@
 -- Reading: what is read of a core besides its entries and answers.
-use Rattle.std.specs.Prelude.{ℕ, not, ◌&&◌, Bool, List, Option, option_map, if◌then◌else◌}
-use Rattle.std.specs.Prelude.{unwrap_or}
+use Rattle.std.specs.Prelude.{ℕ, ◌==◌, not, ◌&&◌, Bool, List, [], ◌∷◌, Option, Some, None}
+use Rattle.std.specs.Prelude.{option_map, unwrap_or, if◌then◌else◌}
 use Rattle.pt_types.specs.declared.operations.ObjectClass.{ObjectClass}
 use Rattle.pt_types.specs.declared.operations.ObjectClass.TheVariants as class
 use Rattle.pt_types.specs.declared.views.MutexView.{MutexView}
 use Rattle.pt_types.specs.declared.views.RwlockView.{RwlockView}
 use Rattle.pt_model.specs.Histories.{History}
 use Rattle.pt_model.specs.Clients.{client}
-use Rattle.pt_model.specs.Objects.{find}
+use Rattle.pt_model.specs.Objects.{find, kind_of, barrier_count}
 use Rattle.pt_model.specs.Mutexes.{mutex_view}
 use Rattle.pt_model.specs.Rwlocks.{rwlock_view}
 use Rattle.pt_model.specs.Grants.{is_blocked}
-use Rattle.pt_model.specs.Moves.{waiting_at}
+use Rattle.pt_model.specs.declared.waiting_call.WaitingCall.{WaitingCall}
+use Rattle.pt_model.specs.Answers.{open_calls}
+use Rattle.pt_model.specs.Moves.{at_object, key, waiting_at}
 use Rattle.pt_model.specs.Verdicts.{bound_by, is_busy}
+use Rattle.pt_readable.specs.declared.waiting.Waiting.{Waiting}
 
 -- the mutex that a name means, as its verdict tables see it  [XSH 2.9.3]
 abbrev pub mutex_named : History → List ℕ → Option MutexView
@@ -43,3 +46,22 @@ bound_at h n = option_map (λ q. bound_by (waiting_at h q)) (find h n class.Cond
 -- whether the object of this class that a name means is in use  [XSH pthread_mutex_destroy]
 abbrev pub busy_at : History → List ℕ → ObjectClass → Option Bool
 busy_at h n class = option_map (is_busy h class) (find h n class)
+
+-- the count of the barrier that a name means  [XSH pthread_barrier_init]
+abbrev pub count_at : History → List ℕ → Option ℕ
+count_at h n = option_map (λ b. barrier_count (kind_of h b)) (find h n class.Barrier)
+
+-- the first of these calls that the client made
+abbrev pub call_by : List WaitingCall → ℕ → Option WaitingCall
+call_by [] c = None
+call_by (w ∷ ws) c = if w.client == c then Some w else call_by ws c
+
+-- the object at which an open call waits, and the key that decides its turn there
+-- [XSH 2.8.4, pthread_cond_broadcast]
+abbrev pub turn_of : History → WaitingCall → Waiting
+turn_of h w = record { object = at_object h w; key = key h w }
+
+-- where a client's open call waits, if it has one, and the key that decides its turn there
+-- [XSH 2.8.4]
+abbrev pub waiting_of : History → ℕ → Option Waiting
+waiting_of h c = option_map (turn_of h) (call_by (open_calls h) c)

@@ -3,5 +3,7 @@
 #![tactic(auto)]
 
 mod readable_history;
+mod waiting;
 
 pub use readable_history::ReadableHistory;
+pub use waiting::Waiting;

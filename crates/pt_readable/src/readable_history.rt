@@ -1,11 +1,12 @@
 ghost use Rattle.std.specs.Prelude.{◌≡◌, is_some};
 ghost use Rattle.pt_model.specs.Answers.{open_place};
-ghost use Rattle.pt_model.specs.Clients.{clock as clock_in};
+ghost use Rattle.pt_model.specs.Clients.{clock as clock_in, is_alive as is_alive_in};
 ghost use Rattle.pt_model.specs.Objects.{find as find_in, object_named, objects as objects_in};
 ghost use Rattle.pt_legal.specs.Cores.{past, shown};
-ghost use Rattle.pt_readable.specs.Reading.{blocked_at, bound_at, busy_at, mutex_named};
-ghost use Rattle.pt_readable.specs.Reading.{rwlock_named};
+ghost use Rattle.pt_readable.specs.Reading.{blocked_at, bound_at, busy_at, count_at, mutex_named};
+ghost use Rattle.pt_readable.specs.Reading.{rwlock_named, waiting_of};
 
+use crate::waiting::Waiting;
 use pt_legal::LegalHistory;
 use pt_types::operations::ObjectClass;
 use pt_types::views::{MutexView, RwlockView};
@@ -49,6 +50,20 @@ pub trait ReadableHistory: LegalHistory {
     /// then it can't be destroyed.  [XSH pthread_mutex_destroy, EBUSY is profile]
     fn is_busy(&self, n: &Name, class: ObjectClass) -> Option<bool>
         ensures { result ≡ busy_at (past (shown (Self.seen self.now))) n.now class };
+
+    /// Returns the count of the barrier that has the name, if one does.
+    /// [XSH pthread_barrier_init]
+    fn barrier_count(&self, n: &Name) -> Option<u64>
+        ensures { result ≡ count_at (past (shown (Self.seen self.now))) n.now };
+
+    /// Returns whether a client lives.  [profile]
+    fn is_alive(&self, c: ClientId) -> bool
+        ensures { result ≡ is_alive_in (past (shown (Self.seen self.now))) c };
+
+    /// Returns where a client's open call waits, and the key that decides its turn there, if the
+    /// client has an open call.  [XSH 2.8.4]
+    fn waiting(&self, c: ClientId) -> Option<Waiting>
+        ensures { result ≡ waiting_of (past (shown (Self.seen self.now))) c };
 
     /// Returns the place of a client's open call, if it has one.
     fn open_call(&self, c: ClientId) -> Option<u64>

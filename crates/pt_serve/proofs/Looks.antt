@@ -1,5 +1,5 @@
 -- Looks at a clock.
-use Rattle.std.specs.Prelude.{◌≡◌, ℕ, ◌++◌, List, [], ◌∷◌, Result, Ok, Err, OnOk, OnErr, Option}
+use Rattle.std.specs.Prelude.{◌≡◌, ℕ, ◌++◌, [], ◌∷◌, Result, Ok, Err, OnOk, OnErr, Option}
 use Rattle.std.specs.Prelude.{Some, true, option_map}
 use Rattle.std.proofs.Common.{ap, sym, ◌∙◌}
 use Rattle.std.specs.declared.time.Duration.{Duration}
@@ -27,8 +27,8 @@ due clock least moment found is = record {
 pub looked : {T E : Type 0} (r : Result T E) (clock : Clock) (reading : Option Duration)
     (moment : ℕ) (old new : ClockView) → option_map as_nanos reading ≡ Some moment
     → Found (λ hub. is_due (least_deadline (past (kept hub.desk)) clock) moment ≡ true)
-    → OnOk r (new.moments ≡ old.moments ++ record { clock = clock; moment = moment } ∷ [])
-    → OnErr r (new ≡ old) → IsLookedAt clock reading old.moments new.moments
+    → OnOk r (new
+    ≡ record old { moments = old.moments ++ record { clock = clock; moment = moment } ∷ [] })
+    → OnErr r (new ≡ old) → IsLookedAt clock reading old new
 looked (Ok x) clock reading moment old new reads found told same = ticks moment reads found told
-looked (Err e) clock reading moment old new reads found told same =
-    nothing (ap (λ p. p.moments) same)
+looked (Err e) clock reading moment old new reads found told same = nothing same

@@ -1,13 +1,13 @@
 -- Clocks: when a server hands in what a clock shows.
-use Rattle.std.specs.Prelude.{ℕ, ◌≡◌, ◌++◌, Bool, true, false, nat_le, List, [], ◌∷◌, Option}
+use Rattle.std.specs.Prelude.{ℕ, ◌≡◌, ◌++◌, Bool, true, false, nat_le, [], ◌∷◌, Option}
 use Rattle.std.specs.Prelude.{Some, None, option_map}
 use Rattle.std.specs.declared.time.Duration.{Duration}
 use Rattle.std.specs.Duration.{as_nanos}
 use Rattle.pt_types.specs.declared.time.Clock.{Clock}
 use Rattle.pt_model.specs.Queries.{least_deadline}
 use Rattle.pt_legal.specs.Cores.{past}
-use Rattle.pt_hub.specs.declared.pass.Tick.{Tick}
 use Rattle.pt_hub.specs.Desks.{kept}
+use Rattle.pt_hub.specs.Passes.{ClockView}
 use Rattle.pt_session.specs.Stays.{Found}
 
 -- whether a deadline is at or before a moment  [XSH pthread_mutex_timedlock]
@@ -17,9 +17,10 @@ is_due (Some deadline) now = nat_le deadline now
 
 -- no moment is handed in; or one of this clock is, which is its reading, if a deadline of an open
 -- call was due by it  [profile]
-pub data IsLookedAt (clock : Clock) (reading : Option Duration) (old new : List Tick) : Type 0 where
+pub data IsLookedAt (clock : Clock) (reading : Option Duration) (old new : ClockView)
+    : Type 0 where
   nothing : new ≡ old → IsLookedAt clock reading old new
   ticks : (moment : ℕ) → option_map as_nanos reading ≡ Some moment
       → Found (λ hub. is_due (least_deadline (past (kept hub.desk)) clock) moment ≡ true)
-      → new ≡ old ++ record { clock = clock; moment = moment } ∷ []
+      → new ≡ record old { moments = old.moments ++ record { clock = clock; moment = moment } ∷ [] }
       → IsLookedAt clock reading old new

@@ -7,7 +7,7 @@ ghost use Rattle.pt_serve.specs.Clocks.{is_due, IsLookedAt};
 
 use pt_hub::ClockPass;
 use pt_legal::LegalHistory;
-use pt_session::Shared;
+use pt_session::{Retention, Shared};
 use pt_types::{Clock, Deadline, Moment};
 use std::sync::Wait;
 use std::sync::ledger::Ledger;
@@ -53,7 +53,7 @@ fn look<C: LegalHistory, L: Ledger, R: Wait>(
     clock: Clock,
     reading: Option<Duration>,
 )
-    ensures { IsLookedAt clock reading pass.old.moments pass.new.moments }
+    ensures { IsLookedAt clock reading pass.old pass.new }
 {
     let Some(now) = moment_of(reading) else {
         return;
@@ -64,11 +64,12 @@ fn look<C: LegalHistory, L: Ledger, R: Wait>(
 }
 
 /// Hands in the clocks of the system until the server ends: the time since 1970, and the time since
-/// the server started.  [profile]
+/// the server started. The moments are discarded unless they are retained.  [profile]
 pub fn tick<C: LegalHistory, L: Ledger, R: Wait + SystemClock>(
     rt: &R,
     shared: &Shared<C, L>,
     pass: ClockPass<L>,
+    retention: Retention,
 ) -> ClockPass<L> {
     let mut pass = pass;
     let start = rt.monotonic().ok();
@@ -79,6 +80,7 @@ pub fn tick<C: LegalHistory, L: Ledger, R: Wait + SystemClock>(
         look(rt, shared, &mut pass, Clock::Real, rt.since_1970().ok());
         let running = elapsed(start, rt.monotonic().ok());
         look(rt, shared, &mut pass, Clock::Mono, running);
+        retention.settle_clock(&mut pass);
         thread::sleep(rt, Duration::from_millis(LOOK_MILLIS));
     }
     pass

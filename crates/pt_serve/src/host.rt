@@ -7,12 +7,13 @@ ghost use Rattle.pt_serve.specs.Served.{Tells, fault_in};
 use crate::clock::tick;
 use crate::fault::{HostFault, ServeFault, fault_of};
 use crate::polling::{Connections, PolledReader, PolledWriter};
+use crate::recording::{TraceFile, write_trace};
 use crate::remains::{Remain, Remains};
 use crate::told::{Told, ended_with, tell};
 use pt_hub::ClockPass;
 use pt_io::{Counted, Sink};
 use pt_legal::LegalHistory;
-use pt_session::{ClockMode, OpenGate, Shared, session};
+use pt_session::{ClockMode, OpenGate, Retention, Shared, session};
 use std::alloc::Global;
 use std::net::TcpStream;
 use std::os::fd::{AsRawFd, OwnedFd};
@@ -47,6 +48,7 @@ struct Server<'a, C: LegalHistory, L: Ledger, R> {
     mode: ClockMode,
     /// The number of connections to accept, or 0 for no limit.
     sessions: u64,
+    retention: Retention,
     connections: Connections,
     remains: Mutex<Remains<L>>,
 }
@@ -77,6 +79,7 @@ impl<'a, C: LegalHistory + Send, L: Ledger + Send + Sync, R: Threads + Wait + Cl
             &OpenGate,
             self.mode,
             Some(stream.as_raw_fd()),
+            self.retention,
         );
         self.connections.end();
         let Ok(end) = ended else {
@@ -180,7 +183,8 @@ impl<'a, C: LegalHistory + Send, L: Ledger + Send + Sync, R: Threads + Wait + Cl
                 ensures told { Tells (output E.taken E.flushed E.failures E.rejections) errors
                     (fault_in result.end) result.errors }
             {
-                let Ok(ticking) = scope.spawn(move || tick(self.rt, self.shared, clock)) else {
+                let ticks = move || tick(self.rt, self.shared, clock, self.retention);
+                let Ok(ticking) = scope.spawn(ticks) else {
                     return tell(Err(ServeFault::Thread), errors);
                 };
                 let served = self.accept(listener, errors);
@@ -207,15 +211,56 @@ impl<'a, C: LegalHistory + Send, L: Ledger + Send + Sync, R: Threads + Wait + Cl
             ClockMode::Lines => ended_with(self.accept(listener, errors), clock),
         }
     }
+
+    // Does what `accept_all` does, while another thread writes what is recorded, if there is a file
+    // for that.
+    fn accept_recorded<'t, E: Sink + Send + Drop, F: Sink + Send + Drop>(
+        &self,
+        listener: UnixListener,
+        clock: ClockPass<L>,
+        errors: E,
+        trace: Option<TraceFile<'t, F, E>>,
+    ) -> Told<ClockPass<L>, E>
+        requires { E.failures errors ≡ 0 }
+        ensures why { fault_in result.end ≢ Some ServeFault.Write }
+        ensures told { Tells (output E.taken E.flushed E.failures E.rejections) errors
+            (fault_in result.end) result.errors }
+    {
+        let Some(trace) = trace else {
+            return self.accept_all(listener, clock, errors);
+        };
+        thread::scope(
+            thread::scope_env(),
+            self.rt,
+            move |scope| -> Told<ClockPass<L>, E>
+                requires { E.failures errors ≡ 0 }
+                ensures why { fault_in result.end ≢ Some ServeFault.Write }
+                ensures told { Tells (output E.taken E.flushed E.failures E.rejections) errors
+                    (fault_in result.end) result.errors }
+            {
+                match scope.spawn(move || write_trace(self.rt, self.shared, trace)) {
+                    Ok(writing) => {
+                        let served = self.accept_all(listener, clock, errors);
+                        self.shared.finish(self.rt);
+                        writing.join(self.rt).write(self.rt, self.shared);
+                        served
+                    }
+                    Err(_) => tell(Err(ServeFault::Thread), errors),
+                }
+            },
+        )
+    }
 }
 
 /// Serves `sessions` connections, or goes on without end if that is 0, and returns what they leave.
 /// A fault is reported as it comes.
 pub fn host<
+    't,
     C: LegalHistory + Send,
     L: Ledger + Send + Sync,
     R: Threads + Wait + Clock + Sync,
-    E: Sink + Drop,
+    E: Sink + Send + Drop,
+    F: Sink + Send + Drop,
 >(
     rt: &R,
     alloc: Global,
@@ -225,22 +270,30 @@ pub fn host<
     mode: ClockMode,
     sessions: u64,
     errors: E,
+    trace: Option<TraceFile<'t, F, E>>,
 ) -> Told<Remains<L>, E>
     requires { E.failures errors ≡ 0 }
     ensures why { fault_in result.end ≢ Some ServeFault.Write }
     ensures told { Tells (output E.taken E.flushed E.failures E.rejections) errors
         (fault_in result.end) result.errors }
 {
+    // What is retained is needed only to close the history.
+    let retention = if sessions == 0 {
+        Retention::Pending
+    } else {
+        Retention::Complete
+    };
     let server = Server {
         rt,
         alloc,
         shared,
         mode,
         sessions,
+        retention,
         connections: Connections::new(),
         remains: Mutex::new(Remains::new(alloc)),
     };
-    let Told { end, errors } = server.accept_all(listener, clock, errors);
+    let Told { end, errors } = server.accept_recorded(listener, clock, errors, trace);
     match end {
         Ok(clock) => {
             let Server { remains, .. } = server;

@@ -10,11 +10,13 @@ mod fault;
 mod host;
 mod output;
 mod polling;
+mod recording;
 mod remains;
 mod server;
 mod told;
 
 pub use fault::ServeFault;
 pub use output::status_of;
+pub use recording::TraceFile;
 pub use server::serve;
 pub use told::Told;

@@ -69,8 +69,8 @@ fn put<W: Sink>(writer: &mut W, bytes: &[u8]) -> bool
     true
 }
 
-// Writes a line and flushes it.
-fn say<W: Sink>(out: &mut W, line: &[u8]) -> Result<(), ServeFault>
+/// Writes a text and flushes it.
+pub fn say<W: Sink>(out: &mut W, line: &[u8]) -> Result<(), ServeFault>
     requires { W.failures out.old ≡ 0 }
     ensures ok { OnOk result ((W.taken out.new ≡ W.taken out.old ++ line.now)
         × (W.flushed out.new ≡ W.taken out.new) × (W.failures out.new ≡ 0)

@@ -6,11 +6,13 @@ ghost use Rattle.pt_serve.specs.Served.{IsServiceBegun, Tells, closed_line, faul
 use crate::fault::ServeFault;
 use crate::host::host;
 use crate::output::{say_closed, say_ready};
+use crate::recording::TraceFile;
 use crate::told::{Told, tell};
 use pt_bells::Peers;
 use pt_hub::{ClockPass, Closed, Hub};
 use pt_io::Sink;
 use pt_legal::LegalHistory;
+use pt_recorder::Recorder;
 use pt_session::{ClockMode, Shared};
 use std::alloc::Global;
 use std::marker::Brand;
@@ -27,10 +29,12 @@ const SHARES: u64 = 1 << 63;
 
 // Serves with this ledger on a socket that listens. `ready` is written before this.
 fn serve_ready<
+    't,
     C: LegalHistory + Send,
     L: Ledger + Send + Sync,
     R: Threads + Wait + Clock + Sync,
-    E: Sink + Drop,
+    E: Sink + Send + Drop,
+    F: Sink + Send + Drop,
 >(
     rt: &R,
     alloc: Global,
@@ -41,6 +45,7 @@ fn serve_ready<
     mode: ClockMode,
     sessions: u64,
     errors: E,
+    trace: Option<TraceFile<'t, F, E>>,
 ) -> Told<Closed, E>
     requires empty { IsEmpty (shown (C.seen core)) }
     requires name { (blank.name ≡ L.name) × (blank.parts ≡ L.parts) }
@@ -53,8 +58,11 @@ fn serve_ready<
     // A server without end never closes its hub, so nobody reads what receipts have seen.
     let heap = if sessions == 0 { None } else { Some(alloc) };
     let (hub, clock): (Hub<C, L>, ClockPass<L>) = Hub::new(core, alloc, heap, blank);
-    let shared = Shared::with_peers(hub, peers);
-    let Told { end, errors } = host(rt, alloc, listener, &shared, clock, mode, sessions, errors);
+    let recorder = trace.as_ref().map(|_| Recorder::new(alloc));
+    let shared = Shared::with_peers(hub, peers, recorder);
+    let Told { end, errors } = host(
+        rt, alloc, listener, &shared, clock, mode, sessions, errors, trace,
+    );
     match end {
         Ok(remains) => tell(remains.close(shared.into_hub()), errors),
         Err(fault) => Told {
@@ -94,11 +102,16 @@ fn listen<R: Files + Net>(
 /// the system refuses for lack of descriptors or memory is accepted later. A fault is reported in
 /// one line on `errors` as it comes. The listener is then closed, the server waits for the running
 /// sessions, and the history is not closed. The file at the path stays.
+///
+/// With a trace file, each event is written there as a line of a script, with the answers that it
+/// brought, in the order of the history.
 pub fn serve<
+    't,
     C: LegalHistory + Send,
     W: Sink,
     R: Files + Net + Threads + Wait + Clock + Sync,
-    E: Sink + Drop,
+    E: Sink + Send + Drop,
+    F: Sink + Send + Drop,
 >(
     rt: &R,
     alloc: Global,
@@ -108,6 +121,7 @@ pub fn serve<
     sessions: u64,
     out: &mut W,
     errors: E,
+    trace: Option<TraceFile<'t, F, E>>,
 ) -> Told<Closed, E>
     requires empty { IsEmpty (shown (C.seen core)) }
     requires output { W.failures out.old ≡ 0 }
@@ -137,8 +151,8 @@ pub fn serve<
         return tell(Err(fault), errors);
     }
     let blank = Blank::new(SHARES);
-    let Told { end, errors } = serve_ready::<C, Brand, R, E>(
-        rt, alloc, core, blank, listener, peers, mode, sessions, errors,
+    let Told { end, errors } = serve_ready::<C, Brand, R, E, F>(
+        rt, alloc, core, blank, listener, peers, mode, sessions, errors, trace,
     );
     let closed = match end {
         Ok(closed) => closed,

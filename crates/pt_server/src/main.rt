@@ -8,16 +8,15 @@
 #![tactic(auto)]
 
 mod checking;
+mod serving;
 
 use checking::run_check;
-use pt_command::{ClockWord, Task, read_task};
+use pt_command::{Task, read_task};
 use pt_core::Core;
 use pt_explain::explain;
-use pt_hub::Closed;
 use pt_io::Counted;
 use pt_script::{ENTRIES_BETWEEN_SEALS, ScriptFault, answer};
-use pt_serve::{ServeFault, serve};
-use pt_session::ClockMode;
+use serving::run_serve;
 use std::io;
 use std::process::ExitCode;
 
@@ -49,43 +48,12 @@ fn run_explain(rt: &HostRuntime) -> ExitCode {
     ExitCode::from(explain(core, rt.alloc(), &mut reader, &mut writer, &mut errors))
 }
 
-fn mode_of(clock: ClockWord) -> ClockMode {
-    match clock {
-        ClockWord::Lines => ClockMode::Lines,
-        ClockWord::System => ClockMode::System,
-    }
-}
-
-// Returns the exit status of a server that ended so.
-fn end_of(served: Result<Closed, ServeFault>) -> ExitCode {
-    match served {
-        Ok(_) => ExitCode::SUCCESS,
-        Err(fault) => ExitCode::from(pt_serve::status_of(fault)),
-    }
-}
-
 fn main(rt: HostRuntime) -> ExitCode {
     match read_task(&rt) {
         Task::Script => run_script(&rt),
         Task::Explain => run_explain(&rt),
         Task::Check(traces) => run_check(&rt, &traces),
-        Task::Serve(service) => {
-            let Ok(core) = Core::with_limit(rt.alloc(), ENTRIES_BETWEEN_SEALS) else {
-                return want_memory(&rt);
-            };
-            let mut out = Counted::new(io::writer(&rt));
-            let served = serve(
-                &rt,
-                rt.alloc(),
-                core,
-                service.path.as_str(),
-                mode_of(service.clock),
-                service.sessions,
-                &mut out,
-                Counted::new(rt.stderr()),
-            );
-            end_of(served.end)
-        }
+        Task::Serve(service) => run_serve(&rt, &rt, &service),
         Task::End(status) => status,
     }
 }

@@ -2,7 +2,7 @@ use crate::client::Client;
 use pt_core::Core;
 use pt_hub::Closed;
 use pt_io::Counted;
-use pt_serve::{ServeFault, serve};
+use pt_serve::{ServeFault, TraceFile, serve};
 use pt_session::ClockMode;
 use std::alloc::Global;
 use std::net::Net;
@@ -18,6 +18,9 @@ const ROUNDS: u32 = 20;
 
 const SESSIONS: u64 = 80;
 
+// A server that records nothing.
+const NO_TRACE: Option<TraceFile<'static, Counted<Vec<u8>>, Counted<Vec<u8>>>> = None;
+
 // Runs a server of this number of sessions, and returns its result and what it wrote.
 fn serve_in_memory<R: Files + Net + Threads + Wait + Clock + Sync>(
     rt: &R,
@@ -30,7 +33,10 @@ fn serve_in_memory<R: Files + Net + Threads + Wait + Clock + Sync>(
     let served = match Core::new(alloc) {
         Ok(core) => {
             let errors = Counted::new(Vec::new(alloc));
-            serve(rt, alloc, core, path, mode, sessions, &mut out, errors).end
+            serve(
+                rt, alloc, core, path, mode, sessions, &mut out, errors, NO_TRACE,
+            )
+            .end
         }
         Err(_) => Err(ServeFault::Memory),
     };

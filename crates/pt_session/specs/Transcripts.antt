@@ -17,7 +17,9 @@ use Rattle.pt_lines.specs.Replies.{reply_line}
 use Rattle.pt_hub.specs.declared.pass.Receipt.{Receipt}
 use Rattle.pt_hub.specs.declared.pass.Tick.{Tick as Reported}
 use Rattle.pt_hub.specs.Passes.{PassView, LeftView, ClockView}
+use Rattle.pt_session.specs.declared.kinds.Retention.{Retention}
 use Rattle.pt_session.specs.Readings.{Reading}
+use Rattle.pt_session.specs.Retained.{moments_by, receipts_by}
 
 -- a submitted line with its word, or none if its call is open  [profile]
 abbrev pub Exchange : Type 0
@@ -140,22 +142,30 @@ calls_of rs = map (λ r. (r.call, r.answer)) rs
 
 -- a client joined exactly if a hello was accepted; it has that hello's priority, and its receipts
 -- are of the accepted calls  [profile]
-abbrev pub IsPassOf : List Exchange → Option PassView → Type 0
-IsPassOf xs None = (hellos_in xs ≡ []) × (asked_in xs ≡ [])
-IsPassOf xs (Some p) = (hellos_in xs ≡ p.priority ∷ []) × (calls_of p.receipts ≡ asked_in xs)
+abbrev pub IsPassOf : Retention → List Exchange → Option PassView → Type 0
+IsPassOf r xs None = (hellos_in xs ≡ []) × (asked_in xs ≡ [])
+IsPassOf r xs (Some p) =
+    (hellos_in xs ≡ p.priority ∷ []) × (calls_of (receipts_by r p) ≡ asked_in xs)
 
 -- the pass that a client left, without its Death
 abbrev pub pass_of : LeftView → PassView
 pass_of l =
-    record { client = l.client; priority = l.priority; seen = l.joined; receipts = l.receipts }
+    record {
+      client = l.client;
+      priority = l.priority;
+      seen = l.joined;
+      discarded = l.discarded;
+      receipts = l.receipts;
+    }
 
 -- a client left something exactly if a hello was accepted; it had that hello's priority, and its
 -- receipts are of the accepted calls  [profile]
-abbrev pub IsLeftOf : List Exchange → Option LeftView → Type 0
-IsLeftOf xs left = IsPassOf xs (option_map pass_of left)
+abbrev pub IsLeftOf : Retention → List Exchange → Option LeftView → Type 0
+IsLeftOf r xs left = IsPassOf r xs (option_map pass_of left)
 
--- a client, a clock, and the lines that were submitted for them
+-- a client, a clock, what is retained of them, and the lines that were submitted for them
 pub record Dealings : Type 0 where
+  pub retention : Retention
   pub pass : Option PassView
   pub clock : ClockView
   pub exchanges : List Exchange
@@ -164,5 +174,5 @@ pub record Dealings : Type 0 where
 -- accepted ones  [profile]
 pub record AreDealings (d : Dealings) : Type 0 where
   pub words : IsTranscript d.exchanges
-  pub pass : IsPassOf d.exchanges d.pass
-  pub clock : d.clock.moments ≡ moments_in d.exchanges
+  pub pass : IsPassOf d.retention d.exchanges d.pass
+  pub clock : moments_by d.retention d.clock ≡ moments_in d.exchanges

@@ -2,26 +2,20 @@
 mod Lookups
 -- Listed: the rows that are listed: a look-up by number goes through the listed slots
 mod Listed
+-- Packed: numbers whose rows are gone are dropped, or skipped to find the row at an index
+mod Packed
 -- Added: adding a row: a new row in a vacant slot is the last one that is listed
 mod Added
 -- Written: changing a row in its slot, if the row keeps its number
 mod Written
--- Removed: taking a row out: its slot is empty, and its number is no longer listed
+-- Removed: taking a row out: its slot is empty, and its number leads to no row
 mod Removed
 -- Named: the names of the listed rows: a look-up by name goes through the map of names
 mod Named
--- Vacated: a row that is taken out of the slot of its number: what is known of the answer
-mod Vacated
--- Refused: a row that was handed back: for which fault, and how many rows there are
-mod Refused
 -- Links: what writing a link changes in the rows, and in what each leads to
 mod Links
 -- Chained: what the numbers of a chain lead to, as one is put in or taken out
 mod Chained
--- Struck: entries of which some are struck out, and the others
-mod Struck
--- Rising: entries whose numbers rise, and where one of them is
-mod Rising
 -- Entered: a number that is put first in a chain: what leads to what, before and after
 mod Entered
 -- Taken: a number that is taken out of a chain: what leads to what, before and after
@@ -41,7 +35,5 @@ mod Sorted
 -- ChainCallers: for callers: what changes in chains and rows as rows are linked, written, added or
 -- taken out
 pub mod ChainCallers
--- Kept: what is true of a table with no row, and of one whose rows and numbers are unchanged
+-- Kept: what is true of a table whose rows and numbers are unchanged
 mod Kept
--- Nth: the row at an index of the list, in the slot that is listed there
-mod Nth

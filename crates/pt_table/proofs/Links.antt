@@ -109,15 +109,6 @@ module _ {T : Type 0} where
       go true = refl
       go false = refl
 
-  -- the same objects have a row
-  pub has-written : (rows : List (ObjectRow T)) (n : ℕ) (link : Link) (m : ℕ)
-      → has_object (with_link rows n link) m ≡ has_object rows m
-  has-written rows n link m = ap is_some (row-relinked rows n link m) ∙ go (object_at rows m)
-    where
-      go : (o : Option (ObjectRow T)) → is_some (option_map (relinked n link) o) ≡ is_some o
-      go None = refl
-      go (Some r) = refl
-
   -- and the rows are unchanged, except for links
   pub unlinked-written : (rows : List (ObjectRow T)) (n : ℕ) (link : Link)
       → unlinked (with_link rows n link) ≡ unlinked rows
@@ -140,16 +131,6 @@ module _ {T : Type 0} where
           → is_some o ≡ true
       go None e = cc
       go (Some r) e = refl
-
-  -- a number that is linked has a link
-  pub linked-link : (rows : List (ObjectRow T)) (n : ℕ) → is_linked rows n ≡ true
-      → (link : Link) × (link_of rows n ≡ Some link)
-  linked-link rows n e = go (link_of rows n) refl e
-    where
-      go : (o : Option Link) → link_of rows n ≡ o → linked_by o ≡ true
-          → (link : Link) × (link_of rows n ≡ Some link)
-      go None found e = cc
-      go (Some link) found e = (link, found)
 
   -- the link of a number shows what the number leads to
   pub next-found : (rows : List (ObjectRow T)) (n : ℕ) (link : Link) → link_of rows n ≡ Some link

@@ -1,9 +1,9 @@
 -- Look-ups in lists of entries, and what an added or a removed entry changes in them.
-use Rattle.std.proofs.Common.{◌≡◌, ◌≤◌, ◌∙◌, ℕ, zero, suc, Bool, true, false, cond, nat_eq, List}
-use Rattle.std.proofs.Common.{[], ◌∷◌, ◌++◌, length, refl, ap, sym, arith, Option, None, Some}
+use Rattle.std.proofs.Common.{◌≡◌, ◌∙◌, ℕ, Bool, true, false, cond, nat_eq, List}
+use Rattle.std.proofs.Common.{[], ◌∷◌, ◌++◌, refl, ap, sym, Option, None, Some}
 use Rattle.std.proofs.Common.{true≢false, is_some, inl, inr}
-use Rattle.std.specs.Prelude.{slice_get}
 use Rattle.std.specs.Map.{lookup, remove_entry}
+use Rattle.indexmap.specs.IndexMap.{insert_entry}
 use Rattle.std.proofs.lemmas.Bool.{eqb-true, eq-eqb}
 use Rattle.std.proofs.lemmas.Bool.Decides.{eqb_tells}
 use Rattle.pt_table.specs.Slots.{Distinct}
@@ -24,21 +24,6 @@ turned m n h =
       | inl s ↦ absurd (true≢false (sym (eq-eqb m n (sym s.1)) ∙ h))
       | inr a ↦ a.0
     ]
-
--- a number that is listed at an index is found
-pub lookup-nth : (es : List (ℕ × ℕ)) (i n s : ℕ) → slice_get es i ≡ Some (n, s)
-    → is_some (lookup (nat_eq n) es) ≡ true
-lookup-nth [] i n s at = cc
-lookup-nth (e ∷ es) zero n s at =
-    let same : e ≡ (n, s) = some_inj at in
-    let own : nat_eq n e.0 ≡ true = eq-eqb n e.0 (sym (ap (λ (x : ℕ × ℕ). x.0) same)) in
-    rw own refl
-lookup-nth (e ∷ es) (suc i) n s at = by (nat_eq n e.0) (lookup-nth es i n s at)
-  where
-    by : (b : Bool) → is_some (lookup (nat_eq n) es) ≡ true
-        → is_some (cond b (Some e.1) (lookup (nat_eq n) es)) ≡ true
-    by true there = refl
-    by false there = there
 
 module _ {K : Type 0} (test : K → Bool) where
   pub lookup_none-parts : (e : K × ℕ) (es : List (K × ℕ)) → lookup test (e ∷ es) ≡ None
@@ -121,12 +106,42 @@ Distinct-remove other (e ∷ es) all = by (Distinct-remove other es all.1) (othe
     by ih true = all.1
     by ih false = (lookup-remove_none (nat_eq e.0) other es all.0, ih)
 
-pub length-remove : (other : ℕ → Bool) (es : List (ℕ × ℕ))
-    → length (remove_entry other es) ≤ length es
-length-remove other [] = omega arith
-length-remove other (e ∷ es) = by (length-remove other es) (other e.0)
+-- a number that is removed is not found
+pub lookup-removed : (n : ℕ) (es : List (ℕ × ℕ)) → Distinct es
+    → lookup (nat_eq n) (remove_entry (nat_eq n) es) ≡ None
+lookup-removed n [] once = refl
+lookup-removed n (e ∷ es) once = by (lookup-removed n es once.1) (nat_eq n e.0) refl
   where
-    by : length (remove_entry other es) ≤ length es → (b : Bool)
-        → length (cond b es (e ∷ remove_entry other es)) ≤ length (e ∷ es)
-    by ih true = omega arith
-    by ih false = omega arith
+    by : lookup (nat_eq n) (remove_entry (nat_eq n) es) ≡ None → (b : Bool) → nat_eq n e.0 ≡ b
+        → lookup (nat_eq n) (cond b es (e ∷ remove_entry (nat_eq n) es)) ≡ None
+    by ih true eq = ap (λ m. lookup (nat_eq m) es) (eqb-true n e.0 eq) ∙ once.0
+    by ih false eq =
+        ap (λ b. cond b (Some e.1) (lookup (nat_eq n) (remove_entry (nat_eq n) es))) eq ∙ ih
+
+-- a number that is not listed is not removed
+pub remove-absent : (n : ℕ) (es : List (ℕ × ℕ)) → lookup (nat_eq n) es ≡ None
+    → remove_entry (nat_eq n) es ≡ es
+remove-absent n [] none = refl
+remove-absent n (e ∷ es) none =
+    let parts = lookup_none-parts (nat_eq n) e es none in
+    ap (λ b. cond b es (e ∷ remove_entry (nat_eq n) es)) parts.0
+    ∙ ap (λ xs. e ∷ xs) (remove-absent n es parts.1)
+
+-- a number that is listed again is removed as before
+pub remove-inserted : (n s : ℕ) (es : List (ℕ × ℕ))
+    → remove_entry (nat_eq n) (insert_entry nat_eq es n s) ≡ remove_entry (nat_eq n) es
+remove-inserted n s [] = ap (λ b. cond b [] ((n, s) ∷ [])) (eq-eqb n n refl)
+remove-inserted n s (e ∷ es) = by (remove-inserted n s es) (nat_eq n e.0) refl
+  where
+    rest : List (ℕ × ℕ)
+    rest = remove_entry (nat_eq n) es
+
+    by : remove_entry (nat_eq n) (insert_entry nat_eq es n s) ≡ rest → (b : Bool)
+        → nat_eq n e.0 ≡ b
+        → remove_entry (nat_eq n) (cond b ((e.0, s) ∷ es) (e ∷ insert_entry nat_eq es n s))
+        ≡ cond b es (e ∷ rest)
+    by ih true eq = ap (λ b. cond b es ((e.0, s) ∷ rest)) eq
+    by ih false eq =
+        ap (λ b. cond b (insert_entry nat_eq es n s)
+        (e ∷ remove_entry (nat_eq n) (insert_entry nat_eq es n s))) eq
+        ∙ ap (λ xs. e ∷ xs) ih

@@ -11,10 +11,10 @@ use Rattle.std.proofs.lemmas.Slice.Eq.{bytes_eq-Decides}
 use Rattle.pt_types.specs.Names.{same_name}
 use Rattle.pt_table.specs.declared.objects.ObjectRow.{ObjectRow}
 use Rattle.pt_table.specs.ObjectRows.{object_at, object_named, has_object, is_taken}
-use Rattle.pt_table.specs.Slots.{row_in_slot, rows_listed, Listed, IsNumbered}
-use Rattle.pt_table.specs.NameSlots.{name_in, IsNamed, IsRowIn, IsRowNamed, IsSet}
+use Rattle.pt_table.specs.Slots.{row_in_slot, its_row, rows_listed, IsNumbered, IsTaken}
+use Rattle.pt_table.specs.NameSlots.{name_in, IsNamed, IsSet}
 use Rattle.pt_table.proofs.Lookups.{some_inj, none_some, none_of}
-use Rattle.pt_table.proofs.Listed.{first_row}
+use Rattle.pt_table.proofs.Listed.{Tells, its-is, its-there, row_there}
 use Rattle.pt_table.proofs.Written.{same_in}
 use Rattle.pt_table.proofs.Removed.{kept, other_slot}
 
@@ -41,59 +41,91 @@ module _ {T : Type 0} where
   row_of_name None t e = cc
   row_of_name (Some row) t e = (row, refl, cc)
 
-module _ {T : Type 0} (slots : List (Option (ObjectRow T))) where
-  abbrev All : List (ℕ × ℕ) → Type 0
-  All es = Listed (λ row. row.number) slots es
+abbrev num : {T : Type 0} → ObjectRow T → ℕ
+num row = row.number
+
+module _ {T : Type 0} (slots : List (Option (ObjectRow T))) (t : List ℕ) where
+  abbrev listed : List (ℕ × ℕ) → List (ObjectRow T)
+  listed es = rows_listed num slots es
+
+  -- a row that is first in its slot has the name, or another row is looked for
+  named_in : (e : ℕ × ℕ) (first : ObjectRow T) → its_row num slots e.0 e.1 ≡ Some first
+      → same_name t first.name ≡ true → name_in slots e.1 ≡ Some t
+  named_in e first is same =
+      ap (option_map (λ row. row.name)) (its-is num slots e.0 e.1 first is).0
+      ∙ ap Some (sym (true-same t first.name same))
 
   -- if only one slot has the name, and a number has this slot, the row there is found
-  name_found : (es : List (ℕ × ℕ)) (t : List ℕ) (s n : ℕ) (row : ObjectRow T) → All es
-      → row_in_slot slots s ≡ Some row → row.name ≡ t
+  name_found : (es : List (ℕ × ℕ)) (s n : ℕ) (row : ObjectRow T)
+      → its_row num slots n s ≡ Some row → row.name ≡ t
       → ((k : ℕ) → name_in slots k ≡ Some t → k ≡ s) → lookup (nat_eq n) es ≡ Some s
-      → object_named (rows_listed slots es) t ≡ Some row
-  name_found [] t s n row all is name only at = cc
-  name_found (e ∷ es) t s n row all is name only at =
-      let r = first_row (λ row. row.number) slots e es all in
-      ap (λ o. object_named (cons_option o (rows_listed slots es)) t) r.1
-      ∙ by (λ later. name_found es t s n row all.1 is name only later)
-      (same_name t r.0.name) r.0 refl r.1 (nat_eq n e.0) at
+      → object_named (listed es) t ≡ Some row
+  name_found [] s n row is name only at = cc
+  name_found (e ∷ es) s n row is name only at =
+      by (λ later. name_found es s n row is name only later) (its_row num slots e.0 e.1) refl
+      (eqb_tells n e.0) at
     where
-      by : (lookup (nat_eq n) es ≡ Some s → object_named (rows_listed slots es) t ≡ Some row)
-          → (b : Bool) (first : ObjectRow T) → same_name t first.name ≡ b
-          → row_in_slot slots e.1 ≡ Some first
-          → (d : Bool) → cond d (Some e.1) (lookup (nat_eq n) es) ≡ Some s
-          → cond b (Some first) (object_named (rows_listed slots es) t) ≡ Some row
-      by ih true first eq at_slot d at =
-          let named = sym (true-same t first.name eq) in
-          let there = ap (option_map (λ row. row.name)) at_slot ∙ ap Some named in
-          sym at_slot ∙ ap (row_in_slot slots) (only e.1 there) ∙ is
-      by ih false first eq at_slot true at =
-          let slot : e.1 ≡ s = some_inj at in
-          let same : first ≡ row = some_inj (sym at_slot ∙ ap (row_in_slot slots) slot ∙ is) in
-          let named = same-true t first.name (sym name ∙ ap (λ row. row.name) (sym same)) in
-          absurd (true≢false (sym named ∙ eq))
-      by ih false first eq at_slot false at = ih at
+      rest : Option (ObjectRow T)
+      rest = object_named (listed es) t
 
-  name_missing : (es : List (ℕ × ℕ)) (t : List ℕ) → All es
-      → ((k : ℕ) → name_in slots k ≢ Some t) → object_named (rows_listed slots es) t ≡ None
-  name_missing [] t all none = refl
-  name_missing (e ∷ es) t all none =
-      let r = first_row (λ row. row.number) slots e es all in
-      ap (λ o. object_named (cons_option o (rows_listed slots es)) t) r.1
-      ∙ by (name_missing es t all.1 none) (same_name t r.0.name) r.0 refl r.1
+      same_row : n ≡ e.0 → e.1 ≡ s → its_row num slots e.0 e.1 ≡ Some row
+      same_row own slot =
+          ap (λ k. its_row num slots k e.1) (sym own) ∙ ap (its_row num slots n) slot ∙ is
+
+      slot_is : nat_eq n e.0 ≡ true → cond (nat_eq n e.0) (Some e.1) (lookup (nat_eq n) es) ≡ Some s
+          → e.1 ≡ s
+      slot_is own at = some_inj (sym (ap (λ b. cond b (Some e.1) (lookup (nat_eq n) es)) own) ∙ at)
+
+      by : (lookup (nat_eq n) es ≡ Some s → rest ≡ Some row) → (o : Option (ObjectRow T))
+          → its_row num slots e.0 e.1 ≡ o → Tells n e.0
+          → cond (nat_eq n e.0) (Some e.1) (lookup (nat_eq n) es) ≡ Some s
+          → object_named (cons_option o (listed es)) t ≡ Some row
+      by ih None here (inl q) at =
+          absurd (none_some (sym here ∙ same_row q.1 (slot_is q.0 at)))
+      by ih None here (inr a) at =
+          ih (sym (ap (λ b. cond b (Some e.1) (lookup (nat_eq n) es)) a.0) ∙ at)
+      by ih (Some first) here q at = go (same_name t first.name) refl q
+        where
+          go : (b : Bool) → same_name t first.name ≡ b → Tells n e.0
+              → cond b (Some first) rest ≡ Some row
+          go true same q =
+              sym (its-is num slots e.0 e.1 first here).0
+              ∙ ap (row_in_slot slots) (only e.1 (named_in e first here same))
+              ∙ (its-is num slots n s row is).0
+          go false other (inl q) =
+              let one : first ≡ row =
+              some_inj (sym here ∙ same_row q.1 (slot_is q.0 at)) in
+              absurd (true≢false (sym (same-true t first.name
+              (sym name ∙ ap (λ r. r.name) (sym one))) ∙ other))
+          go false other (inr a) =
+              ih (sym (ap (λ b. cond b (Some e.1) (lookup (nat_eq n) es)) a.0) ∙ at)
+
+  name_missing : (es : List (ℕ × ℕ)) → ((k : ℕ) → name_in slots k ≢ Some t)
+      → object_named (listed es) t ≡ None
+  name_missing [] none = refl
+  name_missing (e ∷ es) none = by (name_missing es none) (its_row num slots e.0 e.1) refl
     where
-      by : object_named (rows_listed slots es) t ≡ None → (b : Bool) (first : ObjectRow T)
-          → same_name t first.name ≡ b → row_in_slot slots e.1 ≡ Some first
-          → cond b (Some first) (object_named (rows_listed slots es) t) ≡ None
-      by ih true first eq at_slot =
-          let named = sym (true-same t first.name eq) in
-          absurd (none e.1 (ap (option_map (λ row. row.name)) at_slot ∙ ap Some named))
-      by ih false first eq at_slot = ih
+      by : object_named (listed es) t ≡ None → (o : Option (ObjectRow T))
+          → its_row num slots e.0 e.1 ≡ o → object_named (cons_option o (listed es)) t ≡ None
+      by ih None here = ih
+      by ih (Some first) here = go (same_name t first.name) refl
+        where
+          go : (b : Bool) → same_name t first.name ≡ b
+              → cond b (Some first) (object_named (listed es) t) ≡ None
+          go true same = absurd (none e.1 (named_in e first here same))
+          go false other = ih
 
 -- for a table and its rows
 module _ {T : Type 0} {slots : List (Option (ObjectRow T))} {numbers : List (ℕ × ℕ)}
-    {names : List (List ℕ × ℕ)} {most : ℕ}
-    (h : IsNumbered (λ row. row.number) slots numbers most) (k : IsNamed slots names)
-    (rows : List (ObjectRow T)) (view : rows_listed slots numbers ≡ rows) where
+    {names : List (List ℕ × ℕ)}
+    (h : IsNumbered (λ row. row.number) slots numbers) (k : IsNamed slots names)
+    (rows : List (ObjectRow T)) (view : rows_listed (λ row. row.number) slots numbers ≡ rows) where
+  -- the row in a slot is the one that the table has for its number
+  pub row_here : (row : ObjectRow T) (s : ℕ) → row_in_slot slots s ≡ Some row
+      → object_at rows row.number ≡ Some row
+  row_here row s here =
+      ap (λ rs. object_at rs row.number) (sym view) ∙ row_there h row.number s row here refl
+
   -- the row with a name is the one that the table has for it
   pub row_found : (t : List ℕ) (row : ObjectRow T) (s : ℕ) → row_in_slot slots s ≡ Some row
       → row.name ≡ t → Some row ≡ object_named rows t
@@ -102,33 +134,21 @@ module _ {T : Type 0} {slots : List (Option (ObjectRow T))} {numbers : List (ℕ
       let mine : name_in slots s ≡ Some t = ap (option_map (λ r. r.name)) here ∙ ap Some name in
       let only : (j : ℕ) → name_in slots j ≡ Some t → j ≡ s = λ j there.
       some_inj (sym (k.filed j t there) ∙ k.filed s t mine) in
-      sym (name_found slots numbers t s row.number row h.listed here name only at)
+      let its = its-there num slots row.number s row here refl in
+      sym (name_found slots t numbers s row.number row its name only at)
       ∙ ap (λ rs. object_named rs t) view
 
   -- if no slot has the name, the table has no row with it
   pub row_missing : (t : List ℕ) → ((s : ℕ) → name_in slots s ≢ Some t)
       → None ≡ object_named rows t
   row_missing t none =
-      sym (name_missing slots numbers t h.listed none) ∙ ap (λ rs. object_named rs t) view
+      sym (name_missing slots t numbers none) ∙ ap (λ rs. object_named rs t) view
 
   -- a name that no row has is in no slot
   pub name_free : (t : List ℕ) → object_named rows t ≡ None → (s : ℕ) → name_in slots s ≢ Some t
   name_free t free s there =
       let r = row_of_name (row_in_slot slots s) t there in
       none_some (sym free ∙ sym (row_found t r.0 s r.1 r.2))
-
--- the row of a name, from the slot to which the map leads
-pub row_by_map : {T : Type 0} {slots : List (Option (ObjectRow T))} {names : List (List ℕ × ℕ)}
-    → IsNamed slots names → (t : List ℕ) (s : ℕ) → lookup (same_name t) names ≡ Some s
-    → (o : Option (ObjectRow T)) → IsRowIn slots s t o → IsRowNamed slots t o
-row_by_map {T} {slots} k t s at None none =
-    λ j there. none (ap (name_in slots) (some_inj (sym at ∙ k.filed j t there)) ∙ there)
-row_by_map k t s at (Some row) found = found
-
-pub row_unmapped : {T : Type 0} {slots : List (Option (ObjectRow T))}
-    {names : List (List ℕ × ℕ)} → IsNamed slots names → (t : List ℕ)
-    → lookup (same_name t) names ≡ None → (s : ℕ) → name_in slots s ≢ Some t
-row_unmapped k t none s there = none_some (sym none ∙ k.filed s t there)
 
 differ : (t u : List ℕ) → t ≢ u → same_name t u ≡ false
 differ t u apart = by (same_name t u) refl
@@ -157,11 +177,16 @@ module _ {T : Type 0} {slots : List (Option (ObjectRow T))} {names : List (List 
   filed_again s t e =
       elim (eqb_tells s key) [
         | inl is ↦
-            now t ∙ ap (λ b. cond b (Some key) (lookup (same_name t) names)) (same-true row.name t (its s t is.1 e)) ∙ ap Some (sym is.1)
+            now t
+            ∙ ap (λ b. cond b (Some key) (lookup (same_name t) names))
+            (same-true row.name t (its s t is.1 e))
+            ∙ ap Some (sym is.1)
         | inr apart ↦
             let had = was s t apart.1 e in
             let other : row.name ≢ t = λ is. free s (had ∙ ap Some (sym is)) in
-            now t ∙ ap (λ b. cond b (Some key) (lookup (same_name t) names)) (differ row.name t other) ∙ k.filed s t had
+            now t
+            ∙ ap (λ b. cond b (Some key) (lookup (same_name t) names)) (differ row.name t other)
+            ∙ k.filed s t had
       ]
 
   pub IsNamed-added : IsNamed new names'
@@ -169,10 +194,10 @@ module _ {T : Type 0} {slots : List (Option (ObjectRow T))} {names : List (List 
 
 -- the names after a row is changed that keeps its number and its name
 pub IsNamed-written : {T : Type 0} {slots : List (Option (ObjectRow T))} {numbers : List (ℕ × ℕ)}
-    {names : List (List ℕ × ℕ)} {most : ℕ} (row : ObjectRow T) (slot : ℕ)
+    {names : List (List ℕ × ℕ)} (row : ObjectRow T) (slot : ℕ)
     (change : ObjectRow T → ObjectRow T)
     → ((r : ObjectRow T) → (change r).number ≡ r.number) → (change row).name ≡ row.name
-    → IsNumbered (λ r. r.number) slots numbers most → IsNamed slots names
+    → IsNumbered (λ r. r.number) slots numbers → IsNamed slots names
     → row_in_slot slots slot ≡ Some row
     → IsNamed (set slots slot (Some (change row))) names
 IsNamed-written row slot change keeps name h k here =
@@ -183,43 +208,41 @@ IsNamed-written row slot change keeps name h k here =
 
 -- the names after a row is taken out, and its name with it
 module _ {T : Type 0} {slots : List (Option (ObjectRow T))} {numbers : List (ℕ × ℕ)}
-    {names : List (List ℕ × ℕ)} {most : ℕ} (names' : List (List ℕ × ℕ))
-    (row : ObjectRow T) (n slot : ℕ)
-    (h : IsNumbered (λ r. r.number) slots numbers most) (k : IsNamed slots names)
-    (at : lookup (nat_eq n) numbers ≡ Some slot)
+    {names : List (List ℕ × ℕ)} (names' : List (List ℕ × ℕ))
+    (row : ObjectRow T) (slot : ℕ)
+    (h : IsNumbered (λ r. r.number) slots numbers) (k : IsNamed slots names)
     (here : row_in_slot slots slot ≡ Some row)
     (now : IsSet names row.name None names') where
   filed_left : (s : ℕ) (t : List ℕ) → name_in (set slots slot None) s ≡ Some t
       → lookup (same_name t) names' ≡ Some s
   filed_left s t e =
-      let apart = other_slot row n slot h at here (λ r. r.name) s t e in
+      let apart = other_slot row row.number slot h here refl (λ r. r.name) s t e in
       let had : name_in slots s ≡ Some t =
-      sym (ap (option_map (λ r. r.name)) (kept row n slot h at here s apart)) ∙ e in
+      sym (ap (option_map (λ r. r.name)) (kept row row.number slot h here refl s apart)) ∙ e in
       let own = k.filed slot row.name (ap (option_map (λ r. r.name)) here) in
       let other : row.name ≢ t = λ is.
-      apart (some_inj (sym (k.filed s t had) ∙ ap (λ u. lookup (same_name u) names) (sym is) ∙ own)) in
+      apart (some_inj (sym (k.filed s t had) ∙ ap (λ u. lookup (same_name u) names) (sym is)
+      ∙ own)) in
       now t ∙ ap (λ b. cond b None (lookup (same_name t) names)) (differ row.name t other)
       ∙ k.filed s t had
 
   pub IsNamed-removed : IsNamed (set slots slot None) names'
   IsNamed-removed = record { filed = filed_left }
 
--- the same for the rows that `take_out` leaves
+-- the same for the row that `take` returns
 pub named_removed : {T : Type 0} {slots : List (Option (ObjectRow T))} {numbers : List (ℕ × ℕ)}
-    {names : List (List ℕ × ℕ)} {most : ℕ}
-    → IsNumbered (λ r. r.number) slots numbers most → IsNamed slots names
-    → (n : ℕ) (new : List (Option (ObjectRow T))) (row : ObjectRow T)
-    → (slot : ℕ) × (lookup (nat_eq n) numbers ≡ Some slot)
-    × (row_in_slot slots slot ≡ Some row) × (new ≡ set slots slot None)
+    {names : List (List ℕ × ℕ)}
+    → IsNumbered (λ r. r.number) slots numbers → IsNamed slots names
+    → (new : List (Option (ObjectRow T))) (row : ObjectRow T) → IsTaken slots new (Some row)
     → (names' : List (List ℕ × ℕ)) → IsSet names row.name None names' → IsNamed new names'
-named_removed h k n new row taken names' now =
-    rw taken.3 (IsNamed-removed names' row n taken.0 h k taken.1 taken.2 now)
+named_removed h k new row taken names' now =
+    rw taken.2 (IsNamed-removed names' row taken.0 h k taken.1 now)
 
 -- the same for a new row, in a table that first made room
 pub named_added : {T : Type 0} {slots : List (Option (ObjectRow T))} {numbers : List (ℕ × ℕ)}
-    {names : List (List ℕ × ℕ)} {most : ℕ}
-    → IsNumbered (λ r. r.number) slots numbers most → IsNamed slots names
-    → (rows : List (ObjectRow T)) → rows_listed slots numbers ≡ rows
+    {names : List (List ℕ × ℕ)}
+    → IsNumbered (λ r. r.number) slots numbers → IsNamed slots names
+    → (rows : List (ObjectRow T)) → rows_listed (λ r. r.number) slots numbers ≡ rows
     → (roomy : List (Option (ObjectRow T))) (roomy_names : List (List ℕ × ℕ))
     → roomy ≡ slots → roomy_names ≡ names
     → (new : List (Option (ObjectRow T))) (names' : List (List ℕ × ℕ))

@@ -1,11 +1,13 @@
 -- Clients: the rows of the table of clients, as a map from their numbers.
-use Rattle.std.specs.Prelude.{◌≡◌, ℕ, Bool, false, List, [], ◌∷◌, ◌++◌, Option, is_some, length}
+use Rattle.std.specs.Prelude.{◌≡◌, ◌≤◌, ℕ, Bool, false, List, [], ◌∷◌, ◌++◌, Option, is_some}
+use Rattle.std.specs.Prelude.{length}
 use Rattle.std.specs.Prelude.{slice_get}
 use Rattle.std.specs.Option.{option_map}
 use Rattle.pt_types.specs.Limits.{most_clients}
 use Rattle.pt_table.specs.declared.clients.ClientRow.{ClientRow}
 use Rattle.pt_table.specs.Rows.{row_at, without, changed_at}
-use Rattle.pt_table.specs.Slots.{IsNumbered}
+use Rattle.pt_table.specs.declared.rows.Rows.{Rows}
+use Rattle.pt_table.specs.Slots.{rows_of, IsTable}
 
 module _ {T : Type 0} where
   -- the row of the client with this number
@@ -44,6 +46,8 @@ module _ {T : Type 0} where
   abbrev pub without_client : List (ClientRow T) → ℕ → List (ClientRow T)
   without_client rows number = without (λ row. row.number) rows number
 
-  -- the numbers list each client exactly once, and there are at most 1,024 clients
-  abbrev pub AreClients : List (Option (ClientRow T)) → List (ℕ × ℕ) → Type 0
-  AreClients slots numbers = IsNumbered (λ row. row.number) slots numbers most_clients
+  -- the numbers lead to the clients, of which there are at most 1,024
+  abbrev pub AreClients : {A : Type 0} → Rows (ClientRow T) A → Type 0
+  AreClients table =
+      IsTable (λ row. row.number) table
+      × (length (rows_of (λ row. row.number) table) ≤ most_clients)

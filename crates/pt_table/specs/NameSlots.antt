@@ -29,6 +29,7 @@ module _ {T : Type 0} where
   IsRowIn slots slot name (Some row) = IsRowNamed slots name (Some row)
 
   -- each row's name leads to the row's slot
-  pub record IsNamed (slots : List (Option (ObjectRow T))) (names : List (List ℕ × ℕ)) : Type 0 where
+  pub record IsNamed (slots : List (Option (ObjectRow T))) (names : List (List ℕ × ℕ)) :
+      Type 0 where
     pub filed : (slot : ℕ) (name : List ℕ) → name_in slots slot ≡ Some name
         → lookup (same_name name) names ≡ Some slot

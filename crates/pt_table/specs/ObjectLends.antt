@@ -14,10 +14,6 @@ module _ (T : RattleType) where
 
 module _ (T A : RattleType) (alloc : Ghosts A.Denot)
     (s : MutBor (List (ObjectRow T.Denot))) (number : ℕ) where
-  -- the table of objects after a `&mut` into an object's value has ended
-  abbrev pub lends_at : MutBor T.Denot → Fml
-  lends_at r = Lends (the_row T A alloc) T s r (with_object s.now number)
-
   -- the table of objects after a `&mut` into an object's value has ended, or unchanged if there is
   -- no such object
   abbrev pub lends_if_at : Option (MutBor T.Denot) → Fml

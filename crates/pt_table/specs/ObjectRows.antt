@@ -1,5 +1,6 @@
 -- Objects: the rows of the table of objects, as a map from their numbers and from their names.
-use Rattle.std.specs.Prelude.{◌≡◌, ℕ, ◌||◌, Bool, false, List, [], ◌∷◌, ◌++◌, Option, None, find}
+use Rattle.std.specs.Prelude.{◌≡◌, ◌≤◌, ℕ, ◌||◌, Bool, false, List, [], ◌∷◌, ◌++◌, Option, None}
+use Rattle.std.specs.Prelude.{find}
 use Rattle.std.specs.Prelude.{is_some, length, slice_get}
 use Rattle.std.specs.Option.{option_map}
 use Rattle.pt_types.specs.Limits.{most_objects}
@@ -7,21 +8,14 @@ use Rattle.pt_types.specs.Names.{same_name}
 use Rattle.pt_table.specs.declared.link.Link.{Link}
 use Rattle.pt_table.specs.declared.objects.ObjectRow.{ObjectRow}
 use Rattle.pt_table.specs.Rows.{row_at, without, changed_at}
-use Rattle.pt_table.specs.Slots.{IsNumbered}
+use Rattle.pt_table.specs.declared.rows.Rows.{Rows}
+use Rattle.pt_table.specs.Slots.{rows_of, IsTable}
 use Rattle.pt_table.specs.NameSlots.{IsNamed}
 
 -- the link of a row that is in no chain
 abbrev pub out_of_chains : Link
 out_of_chains =
     record { linked = false; next = None; next_slot = 0; before = None; before_slot = 0 }
-
--- a link whose next number and slot are replaced by those of another
-abbrev pub leading_on : Link → (other : Link) → Link
-leading_on its link = record its { next = link.next; next_slot = link.next_slot }
-
--- a link whose previous number and slot are replaced by those of another
-abbrev pub leading_back : Link → (other : Link) → Link
-leading_back its link = record its { before = link.before; before_slot = link.before_slot }
 
 module _ {T : Type 0} where
   -- the row of the object with this number
@@ -82,9 +76,9 @@ module _ {T : Type 0} where
   abbrev pub without_object : List (ObjectRow T) → ℕ → List (ObjectRow T)
   without_object rows number = without (λ row. row.number) rows number
 
-  -- the numbers list each object exactly once, its name leads to it, and there are at most 4,096
-  -- objects
-  abbrev pub AreObjects : List (Option (ObjectRow T)) → List (ℕ × ℕ) → List (List ℕ × ℕ)
-      → Type 0
-  AreObjects slots numbers names =
-      IsNumbered (λ row. row.number) slots numbers most_objects × IsNamed slots names
+  -- the numbers lead to the objects, and so do their names, and there are at most 4,096 objects
+  abbrev pub AreObjects : {A : Type 0} → Rows (ObjectRow T) A → List (List ℕ × ℕ) → Type 0
+  AreObjects table names =
+      IsTable (λ row. row.number) table
+      × (length (rows_of (λ row. row.number) table) ≤ most_objects)
+      × IsNamed table.rows.slots names

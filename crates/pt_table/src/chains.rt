@@ -41,7 +41,10 @@ impl<T, A: Allocator + Copy> Objects<T, A> {
         ensures rows { unlinked self.new ≡ unlinked self.old }
     {
         if let Some(number) = number {
-            self.set_next_near(slot, number, link);
+            let mut its = self.link_near(slot, number);
+            its.next = link.next;
+            its.next_slot = link.next_slot;
+            self.set_link(slot, number, its);
         }
     }
 
@@ -56,7 +59,10 @@ impl<T, A: Allocator + Copy> Objects<T, A> {
         ensures rows { unlinked self.new ≡ unlinked self.old }
     {
         if let Some(number) = number {
-            self.set_before_near(slot, number, link);
+            let mut its = self.link_near(slot, number);
+            its.before = link.before;
+            its.before_slot = link.before_slot;
+            self.set_link(slot, number, its);
         }
     }
 

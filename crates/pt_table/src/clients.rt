@@ -1,19 +1,15 @@
-ghost use Rattle.std.specs.Prelude.{◌≡◌, ◌↔◌, ◌≤◌, [], Some, IsSome, IfErr, IfSome, OnOk, OnErr};
-ghost use Rattle.std.specs.Prelude.{OnSome, IsTrue, is_some, length, nat_eq, slice_get};
+ghost use Rattle.std.specs.Prelude.{◌≡◌, ◌↔◌, ◌≤◌, ◌<◌, [], IsSome, IfErr, OnOk, OnErr, IsTrue};
+ghost use Rattle.std.specs.Prelude.{false, length, slice_get};
 ghost use Rattle.std.specs.Option.{option_map, option_copied, option_copied_mut};
 ghost use Rattle.std.specs.Borrow.{sem};
 ghost use Rattle.pt_types.specs.Limits.{most_clients};
 ghost use Rattle.pt_table.specs.ClientRows.{client_at, client_value, has_client, nth_number};
 ghost use Rattle.pt_table.specs.ClientRows.{nth_value, and_client, without_client, IsFullFor};
 ghost use Rattle.pt_table.specs.Faults.{IsFault};
-ghost use Rattle.pt_table.specs.Slots.{row_in_any, row_in_slot, HasRow, IsNumbered};
-ghost use Rattle.std.specs.Map.{lookup};
 
 use crate::fault::TableFault;
-use crate::numbers::Numbers;
-use crate::rows::{make_room, nth_row, nth_row_in_slot, put, row_by_number, slot_of, take_out};
+use crate::rows::{Numbered, Rows};
 use pt_types::MOST_CLIENTS;
-use slab::Slab;
 use std::alloc::{Allocator, Global};
 use std::marker::Model;
 
@@ -36,70 +32,12 @@ impl<T> ClientRow<T> {
     }
 }
 
-// Returns this slot if the row of a number is in it.
-#[inline(always)]
-fn slot_if_its<T, A: Allocator + Copy>(
-    rows: &Slab<ClientRow<T>, A>,
-    numbers: &Numbers<A>,
-    slot: usize,
-    number: u64,
-) -> Option<usize>
-    requires { IsNumbered (λ row. row.number) rows.now.slots numbers.now.entries most_clients }
-    ensures { IfSome result (λ slot. lookup (nat_eq number) numbers.now.entries ≡ Some slot) }
-{
-    match rows.get(slot) {
-        Some(row) if row.number == number => Some(slot),
-        _ => None,
-    }
-}
+impl<T> Numbered for ClientRow<T> {
+    ghost its_number = { λ row. row.number };
 
-// Returns the slot of a number's row if the number's hint is right.
-#[inline(always)]
-fn slot_by_hint<T, A: Allocator + Copy>(
-    rows: &Slab<ClientRow<T>, A>,
-    numbers: &Numbers<A>,
-    number: u64,
-) -> Option<usize>
-    requires { IsNumbered (λ row. row.number) rows.now.slots numbers.now.entries most_clients }
-    ensures { IfSome result (λ slot. lookup (nat_eq number) numbers.now.entries ≡ Some slot) }
-{
-    slot_if_its(rows, numbers, numbers.hint(number), number)
-}
-
-// Returns the row of a number. The slot that the number's hint gives is tried first.
-#[inline(always)]
-fn row_of<'a, T, A: Allocator + Copy>(
-    rows: &'a Slab<ClientRow<T>, A>,
-    numbers: &Numbers<A>,
-    number: u64,
-) -> Option<&'a ClientRow<T>>
-    requires { IsNumbered (λ row. row.number) rows.now.slots numbers.now.entries most_clients }
-    ensures { option_copied result
-        ≡ row_in_any rows.now.slots (lookup (nat_eq number) numbers.now.entries) }
-{
-    match slot_by_hint(rows, numbers, number) {
-        Some(slot) => rows.get(slot),
-        None => row_by_number(rows, numbers, number),
-    }
-}
-
-// Returns the slot of a client's row. The given slot is tried first.
-#[inline(always)]
-fn slot_by<T, A: Allocator + Copy>(
-    rows: &Slab<ClientRow<T>, A>,
-    numbers: &Numbers<A>,
-    slot: usize,
-    number: u64,
-) -> usize
-    requires numbered { IsNumbered (λ row. row.number)
-        rows.now.slots numbers.now.entries most_clients }
-    requires listed { HasRow rows.now.slots numbers.now.entries number }
-    ensures slot { lookup (nat_eq number) numbers.now.entries ≡ Some result }
-    ensures there { IsSome (row_in_slot rows.now.slots result) }
-{
-    match rows.get(slot) {
-        Some(row) if row.number == number => slot,
-        _ => slot_of(rows, numbers, number),
+    #[inline(always)]
+    fn number(&self) -> u64 {
+        self.number
     }
 }
 
@@ -107,30 +45,26 @@ fn slot_by<T, A: Allocator + Copy>(
 ///
 /// Contracts see the rows in the order in which they were added.
 pub struct Clients<T, A: Allocator + Copy = Global> {
-    rows: Slab<ClientRow<T>, A>,
-    numbers: Numbers<A>,
+    rows: Rows<ClientRow<T>, A>,
 }
 
 impl<T, A: Allocator + Copy> Model for Clients<T, A> {
     ghost use Rattle.std.specs.Prelude.{List};
     ghost use Rattle.pt_table.specs.declared.clients.ClientRow.{ClientRow};
     ghost use Rattle.pt_table.specs.ClientRows.{AreClients};
-    ghost use Rattle.pt_table.specs.Slots.{rows_listed};
+    ghost use Rattle.pt_table.specs.Slots.{rows_of};
 
     ghost Value = { List (ClientRow T) };
 
-    ghost view = { λ c. rows_listed c.rows.slots c.numbers.entries };
+    ghost view = { λ c. rows_of (λ row. row.number) c.rows };
 
-    ghost invariant = { λ c. AreClients c.rows.slots c.numbers.entries };
+    ghost invariant = { λ c. AreClients c.rows };
 }
 
 // Not derived, so that code that drops the table need not prove anything about its parts.
 impl<T: Drop, A: Allocator + Copy> Drop for Clients<T, A> {
     fn drop(self) {
-        let Clients {
-            rows: _,
-            numbers: _,
-        } = self;
+        let Clients { rows: _ } = self;
     }
 }
 
@@ -140,8 +74,7 @@ impl<T, A: Allocator + Copy> Clients<T, A> {
         ensures { result ≡ [] }
     {
         Clients {
-            rows: Slab::new(alloc),
-            numbers: Numbers::new(alloc),
+            rows: Rows::new(alloc),
         }
     }
 
@@ -150,7 +83,7 @@ impl<T, A: Allocator + Copy> Clients<T, A> {
         ensures len { result ≡ length self.now }
         ensures within { length self.now ≤ most_clients }
     {
-        self.numbers.len()
+        self.rows.len()
     }
 
     /// Returns the value of the client with this number, if there is one.
@@ -158,7 +91,7 @@ impl<T, A: Allocator + Copy> Clients<T, A> {
     pub fn at(&self, number: u64) -> Option<&T>
         ensures { option_copied result ≡ client_value self.now number }
     {
-        match row_of(&self.rows, &self.numbers, number) {
+        match self.rows.row(number) {
             Some(row) => Some(&row.value),
             None => None,
         }
@@ -171,8 +104,8 @@ impl<T, A: Allocator + Copy> Clients<T, A> {
         ensures number { option_map (λ p. p.0) result ≡ nth_number self.now index }
         ensures value { option_map (λ p. p.1.now) result ≡ nth_value self.now index }
     {
-        match nth_row(&self.rows, &self.numbers, index) {
-            Some(row) => Some((row.number, &row.value)),
+        match self.rows.nth(index) {
+            Some((_, row)) => Some((row.number, &row.value)),
             None => None,
         }
     }
@@ -182,7 +115,7 @@ impl<T, A: Allocator + Copy> Clients<T, A> {
         ensures number { option_map (λ p. p.1) result ≡ nth_number self.now index }
         ensures value { option_map (λ p. p.2.now) result ≡ nth_value self.now index }
     {
-        match nth_row_in_slot(&self.rows, &self.numbers, index) {
+        match self.rows.nth(index) {
             Some((slot, row)) => Some((slot, row.number, &row.value)),
             None => None,
         }
@@ -192,58 +125,19 @@ impl<T, A: Allocator + Copy> Clients<T, A> {
     pub fn row(&self, index: usize) -> Option<&ClientRow<T>>
         ensures { option_copied result ≡ slice_get self.now index }
     {
-        nth_row(&self.rows, &self.numbers, index)
+        match self.rows.nth(index) {
+            Some((_, row)) => Some(row),
+            None => None,
+        }
     }
 
     fn has(&self, number: u64) -> bool
         ensures { result ≡ has_client self.now number }
     {
-        self.slot_if(number).is_some()
-    }
-
-    ghost use Rattle.pt_table.specs.ClientLends.{lends_at};
-
-    // Returns the slot of a client's row, found without the slot hint, if there is such a client.
-    fn slot_if(&self, number: u64) -> Option<usize>
-        ensures { is_some result ≡ has_client self.now number }
-    {
-        self.numbers.get(number)
-    }
-
-    // Returns a mutable reference to the value of a client. The given slot is tried first.
-    #[inline(always)]
-    fn value_mut(&mut self, slot: usize, number: u64) -> &mut T
-        requires { IsSome (client_at self.old number) }
-        ensures* lends { sem 𝓛 (lends_at T.row A.row A.Allocator self.entry number result) }
-        ensures value { client_value self.old number ≡ Some result.now }
-    {
-        let slot = slot_by(&self.rows, &self.numbers, slot, number);
-        self.rows[slot].value_mut()
+        self.rows.slot_of(number).is_some()
     }
 
     ghost use Rattle.pt_table.specs.ClientLends.{lends_if_at};
-
-    // Returns a mutable reference to the value of a client, found without the slot hint, if there
-    // is such a client.
-    #[cold]
-    #[inline(never)]
-    fn at_mut_by_number(&mut self, number: u64) -> Option<&mut T>
-        ensures* lends { sem 𝓛 (lends_if_at T.row A.row A.Allocator self.entry number result) }
-        ensures value { option_copied_mut result ≡ client_value self.old number }
-    {
-        match self.slot_if(number) {
-            Some(slot) => Some(self.value_mut(slot, number)),
-            None => None,
-        }
-    }
-
-    // Returns the slot of a client's row if its number's hint is right.
-    #[inline(always)]
-    fn hinted(&self, number: u64) -> Option<usize>
-        ensures { OnSome result (IsSome (client_at self.now number)) }
-    {
-        slot_by_hint(&self.rows, &self.numbers, number)
-    }
 
     /// Returns a mutable reference to the value of the client with this number, if there is one.
     #[inline(always)]
@@ -251,28 +145,20 @@ impl<T, A: Allocator + Copy> Clients<T, A> {
         ensures* lends { sem 𝓛 (lends_if_at T.row A.row A.Allocator self.entry number result) }
         ensures value { option_copied_mut result ≡ client_value self.old number }
     {
-        match self.hinted(number) {
-            Some(slot) => Some(self.value_mut(slot, number)),
-            None => self.at_mut_by_number(number),
-        }
-    }
-
-    // Returns this slot if a client's row is in it.
-    fn its_slot(&self, slot: usize, number: u64) -> Option<usize>
-        ensures { OnSome result (IsSome (client_at self.now number)) }
-    {
-        slot_if_its(&self.rows, &self.numbers, slot, number)
+        let hint = self.rows.hint(number);
+        self.at_mut_near(hint, number)
     }
 
     /// Returns a mutable reference to the value of the client with this number, if there is one.
     /// This slot is tried first, and need not be the right one.
+    #[inline(always)]
     pub fn at_mut_near(&mut self, slot: usize, number: u64) -> Option<&mut T>
         ensures* lends { sem 𝓛 (lends_if_at T.row A.row A.Allocator self.entry number result) }
         ensures value { option_copied_mut result ≡ client_value self.old number }
     {
-        match self.its_slot(slot, number) {
-            Some(slot) => Some(self.value_mut(slot, number)),
-            None => self.at_mut_by_number(number),
+        match self.rows.slot_near(slot, number) {
+            Some(slot) => Some(self.rows.rows[slot].value_mut()),
+            None => None,
         }
     }
 
@@ -281,11 +167,26 @@ impl<T, A: Allocator + Copy> Clients<T, A> {
         ensures value { result ≡ client_value self.old number }
         ensures rows { self.new ≡ without_client self.old number }
     {
-        let row = take_out(&mut self.rows, &mut self.numbers, number)?;
-        // Packed at once, since each broadcast walks over all clients by their indices.
-        self.numbers.pack();
+        let row = self.rows.take(number)?;
+        // Dropped at once, since each broadcast walks over all clients by their indices.
+        self.rows.drop_number(number);
         let ClientRow { number: _, value } = row;
         Some(value)
+    }
+
+    // Adds a client whose number is new, or returns its value if a growth is refused.
+    fn enter(&mut self, number: u64, value: T) -> Result<(), T>
+        requires new { has_client self.old number ≡ false }
+        requires room { length self.old < most_clients }
+        ensures ok { OnOk result (self.new ≡ and_client self.old number value) }
+        ensures err { OnErr result (self.new ≡ self.old) }
+        ensures handed { IfErr result (λ handed. handed ≡ value) }
+    {
+        if self.rows.reserve_one().is_err() {
+            return Err(value);
+        }
+        self.rows.put(ClientRow { number, value });
+        Ok(())
     }
 
     /// Adds a client with its value, or returns the value with the fault that prevented it.
@@ -309,15 +210,9 @@ impl<T, A: Allocator + Copy> Clients<T, A> {
         if self.len() >= MOST_CLIENTS {
             return Err((value, TableFault::AtLimit));
         }
-        if make_room(&mut self.rows, &mut self.numbers).is_err() {
-            return Err((value, TableFault::Memory));
+        match self.enter(number, value) {
+            Ok(()) => Ok(()),
+            Err(value) => Err((value, TableFault::Memory)),
         }
-        put(
-            &mut self.rows,
-            &mut self.numbers,
-            number,
-            ClientRow { number, value },
-        );
-        Ok(())
     }
 }

@@ -1,5 +1,5 @@
 //! The tables of clients and of objects. Rows are found by number, and those of objects by name
-//! too. The tables are built on `slab` and a map of names.
+//! too. The tables are built on `slab` and `indexmap`.
 //!
 //! Contracts see a table as the list of its rows in the order in which they were added, and as a
 //! finite map with a limit, from numbers and for objects also from names. They fix the result and
@@ -12,7 +12,6 @@ mod clients;
 mod fault;
 mod link;
 mod names;
-mod numbers;
 mod object_slots;
 mod objects;
 mod rows;

@@ -5,21 +5,17 @@ ghost use Rattle.std.specs.Option.{option_map, option_copied, option_copied_mut}
 ghost use Rattle.std.specs.Borrow.{sem};
 ghost use Rattle.pt_types.specs.Limits.{most_objects};
 ghost use Rattle.pt_table.specs.Faults.{IsFault};
-ghost use Rattle.pt_table.specs.ObjectRows.{object_at, object_value, link_of, has_object};
+ghost use Rattle.pt_table.specs.ObjectRows.{object_at, object_value, link_of};
 ghost use Rattle.pt_table.specs.ObjectRows.{number_of, is_taken, nth_number, nth_value, and_object};
-ghost use Rattle.pt_table.specs.ObjectRows.{with_link, without_object, IsFullFor, leading_on};
-ghost use Rattle.pt_table.specs.ObjectRows.{leading_back};
-ghost use Rattle.pt_table.specs.declared.link.Link.{Link};
+ghost use Rattle.pt_table.specs.ObjectRows.{with_link, without_object, IsFullFor};
 
 use crate::fault::TableFault;
 use crate::link::Link;
 use crate::names::Names;
-use crate::numbers::Numbers;
-use crate::object_slots::{row_named, row_of, slot_by, slot_by_hint};
-use crate::rows::{make_room, nth_row, put, take_out};
+use crate::object_slots::row_named;
+use crate::rows::{Numbered, Rows};
 use crate::stored_link::StoredLink;
 use pt_types::{MOST_OBJECTS, Name};
-use slab::Slab;
 use std::alloc::{AllocError, Allocator, Global};
 use std::marker::Model;
 
@@ -44,13 +40,21 @@ impl<T> ObjectRow<T> {
     }
 }
 
+impl<T> Numbered for ObjectRow<T> {
+    ghost its_number = { λ row. row.number };
+
+    #[inline(always)]
+    fn number(&self) -> u64 {
+        self.number
+    }
+}
+
 /// The objects, each found by its number and by its name.
 ///
 /// Contracts see the rows in the order in which they were added. The server adds objects by rising
 /// number, so this is the order of their numbers too.
 pub struct Objects<T, A: Allocator + Copy = Global> {
-    rows: Slab<ObjectRow<T>, A>,
-    numbers: Numbers<A>,
+    rows: Rows<ObjectRow<T>, A>,
     names: Names<A>,
 }
 
@@ -58,23 +62,19 @@ impl<T, A: Allocator + Copy> Model for Objects<T, A> {
     ghost use Rattle.std.specs.Prelude.{List};
     ghost use Rattle.pt_table.specs.declared.objects.ObjectRow.{ObjectRow};
     ghost use Rattle.pt_table.specs.ObjectRows.{AreObjects};
-    ghost use Rattle.pt_table.specs.Slots.{rows_listed};
+    ghost use Rattle.pt_table.specs.Slots.{rows_of};
 
     ghost Value = { List (ObjectRow T) };
 
-    ghost view = { λ o. rows_listed o.rows.slots o.numbers.entries };
+    ghost view = { λ o. rows_of (λ row. row.number) o.rows };
 
-    ghost invariant = { λ o. AreObjects o.rows.slots o.numbers.entries o.names.slots.entries };
+    ghost invariant = { λ o. AreObjects o.rows o.names.slots.entries };
 }
 
 // Not derived, so that code that drops the table need not prove anything about its parts.
 impl<T: Drop, A: Allocator + Copy> Drop for Objects<T, A> {
     fn drop(self) {
-        let Objects {
-            rows: _,
-            numbers: _,
-            names: _,
-        } = self;
+        let Objects { rows: _, names: _ } = self;
     }
 }
 
@@ -84,8 +84,7 @@ impl<T, A: Allocator + Copy> Objects<T, A> {
         ensures { result ≡ [] }
     {
         Objects {
-            rows: Slab::new(alloc),
-            numbers: Numbers::new(alloc),
+            rows: Rows::new(alloc),
             names: Names::new(alloc),
         }
     }
@@ -95,7 +94,7 @@ impl<T, A: Allocator + Copy> Objects<T, A> {
         ensures len { result ≡ length self.now }
         ensures within { length self.now ≤ most_objects }
     {
-        self.numbers.len()
+        self.rows.len()
     }
 
     /// Returns the value of the object with this number, if there is one.
@@ -103,7 +102,7 @@ impl<T, A: Allocator + Copy> Objects<T, A> {
     pub fn at(&self, number: u64) -> Option<&T>
         ensures { option_copied result ≡ object_value self.now number }
     {
-        match row_of(&self.rows, &self.numbers, number) {
+        match self.rows.row(number) {
             Some(row) => Some(&row.value),
             None => None,
         }
@@ -113,10 +112,8 @@ impl<T, A: Allocator + Copy> Objects<T, A> {
     pub fn find(&self, name: &Name) -> Option<u64>
         ensures { result ≡ number_of self.now name.now }
     {
-        match row_named(&self.rows, &self.names, name) {
-            Some(row) => Some(row.number),
-            None => None,
-        }
+        let (number, _) = self.named(name)?;
+        Some(number)
     }
 
     /// Returns the number and the value of the object with this name, if there is one.
@@ -125,7 +122,7 @@ impl<T, A: Allocator + Copy> Objects<T, A> {
         ensures number { option_map (λ p. p.0) result ≡ number_of self.now name.now }
         ensures value { IfSome result (λ p. object_value self.now p.0 ≡ Some p.1.now) }
     {
-        match row_named(&self.rows, &self.names, name) {
+        match row_named(&self.rows.rows, &self.names, name) {
             Some(row) => Some((row.number, &row.value)),
             None => None,
         }
@@ -138,8 +135,8 @@ impl<T, A: Allocator + Copy> Objects<T, A> {
         ensures number { option_map (λ p. p.0) result ≡ nth_number self.now index }
         ensures value { option_map (λ p. p.1.now) result ≡ nth_value self.now index }
     {
-        match nth_row(&self.rows, &self.numbers, index) {
-            Some(row) => Some((row.number, &row.value)),
+        match self.rows.nth(index) {
+            Some((_, row)) => Some((row.number, &row.value)),
             None => None,
         }
     }
@@ -148,62 +145,19 @@ impl<T, A: Allocator + Copy> Objects<T, A> {
     pub fn row(&self, index: usize) -> Option<&ObjectRow<T>>
         ensures { option_copied result ≡ slice_get self.now index }
     {
-        nth_row(&self.rows, &self.numbers, index)
-    }
-
-    fn has(&self, number: u64) -> bool
-        ensures { result ≡ has_object self.now number }
-    {
-        self.slot_if(number).is_some()
+        match self.rows.nth(index) {
+            Some((_, row)) => Some(row),
+            None => None,
+        }
     }
 
     fn is_taken(&self, number: u64, name: &Name) -> bool
         ensures { result ≡ is_taken self.now number name.now }
     {
-        self.has(number) || self.find(name).is_some()
+        self.rows.slot_of(number).is_some() || self.find(name).is_some()
     }
 
-    ghost use Rattle.pt_table.specs.ObjectLends.{lends_at, lends_if_at};
-
-    // Returns the slot of an object's row, found without the slot hint, if there is such an object.
-    fn slot_if(&self, number: u64) -> Option<usize>
-        ensures { is_some result ≡ has_object self.now number }
-    {
-        self.numbers.get(number)
-    }
-
-    // Returns a mutable reference to the value of an object. The given slot is tried first.
-    #[inline(always)]
-    fn value_mut(&mut self, slot: usize, number: u64) -> &mut T
-        requires { IsSome (object_at self.old number) }
-        ensures* lends { sem 𝓛 (lends_at T.row A.row A.Allocator self.entry number result) }
-        ensures value { object_value self.old number ≡ Some result.now }
-    {
-        let slot = slot_by(&self.rows, &self.numbers, slot, number);
-        self.rows[slot].value_mut()
-    }
-
-    // Returns a mutable reference to the value of an object, found without the slot hint, if there
-    // is such an object.
-    #[cold]
-    #[inline(never)]
-    fn at_mut_by_number(&mut self, number: u64) -> Option<&mut T>
-        ensures* lends { sem 𝓛 (lends_if_at T.row A.row A.Allocator self.entry number result) }
-        ensures value { option_copied_mut result ≡ object_value self.old number }
-    {
-        match self.slot_if(number) {
-            Some(slot) => Some(self.value_mut(slot, number)),
-            None => None,
-        }
-    }
-
-    // Returns the slot of an object's row if its number's hint is right.
-    #[inline(always)]
-    fn hinted(&self, number: u64) -> Option<usize>
-        ensures { OnSome result (IsSome (object_at self.now number)) }
-    {
-        slot_by_hint(&self.rows, &self.numbers, number)
-    }
+    ghost use Rattle.pt_table.specs.ObjectLends.{lends_if_at};
 
     /// Returns a mutable reference to the value of the object with this number, if there is one.
     #[inline(always)]
@@ -211,18 +165,15 @@ impl<T, A: Allocator + Copy> Objects<T, A> {
         ensures* lends { sem 𝓛 (lends_if_at T.row A.row A.Allocator self.entry number result) }
         ensures value { option_copied_mut result ≡ object_value self.old number }
     {
-        match self.hinted(number) {
-            Some(slot) => Some(self.value_mut(slot, number)),
-            None => self.at_mut_by_number(number),
+        match self.rows.slot_of(number) {
+            Some(slot) => Some(self.rows.rows[slot].value_mut()),
+            None => None,
         }
     }
 
     // Returns the slot of an object's row, or any slot if there is no such object.
     pub(crate) fn slot_near(&self, number: u64) -> usize {
-        match self.hinted(number) {
-            Some(slot) => slot,
-            None => self.slot_if(number).unwrap_or(0),
-        }
+        self.rows.slot_of(number).unwrap_or(0)
     }
 
     // Returns the link of an object's row. The given slot is tried first.
@@ -230,15 +181,15 @@ impl<T, A: Allocator + Copy> Objects<T, A> {
         requires { IsSome (object_at self.now number) }
         ensures { link_of self.now number ≡ Some result }
     {
-        let slot = slot_by(&self.rows, &self.numbers, slot, number);
-        self.rows[slot].link.get()
+        let slot = self.rows.slot_by(slot, number);
+        self.rows.rows[slot].link.get()
     }
 
     // Returns the link of an object's row, if there is such an object.
     pub(crate) fn link_of(&self, number: u64) -> Option<Link>
         ensures { result ≡ link_of self.now number }
     {
-        match row_of(&self.rows, &self.numbers, number) {
+        match self.rows.row(number) {
             Some(row) => Some(row.link.get()),
             None => None,
         }
@@ -250,30 +201,8 @@ impl<T, A: Allocator + Copy> Objects<T, A> {
         requires { IsSome (object_at self.old number) }
         ensures { self.new ≡ with_link self.old number link }
     {
-        let slot = slot_by(&self.rows, &self.numbers, slot, number);
-        self.rows[slot].link = StoredLink::of(link);
-    }
-
-    // Sets the next number and slot in the link of an object's row to those of another link. The
-    // given slot is tried first.
-    pub(crate) fn set_next_near(&mut self, slot: usize, number: u64, link: Link)
-        requires { IsSome (object_at self.old number) }
-        ensures { (its : Link) → link_of self.old number ≡ Some its
-            → self.new ≡ with_link self.old number (leading_on its link) }
-    {
-        let slot = slot_by(&self.rows, &self.numbers, slot, number);
-        self.rows[slot].link.set_next(link);
-    }
-
-    // Sets the previous number and slot in the link of an object's row to those of another link.
-    // The given slot is tried first.
-    pub(crate) fn set_before_near(&mut self, slot: usize, number: u64, link: Link)
-        requires { IsSome (object_at self.old number) }
-        ensures { (its : Link) → link_of self.old number ≡ Some its
-            → self.new ≡ with_link self.old number (leading_back its link) }
-    {
-        let slot = slot_by(&self.rows, &self.numbers, slot, number);
-        self.rows[slot].link.set_before(link);
+        let slot = self.rows.slot_by(slot, number);
+        self.rows.rows[slot].link = StoredLink::of(link);
     }
 
     /// Removes the object with this number, and returns its value. Its name is free from then on.
@@ -282,7 +211,9 @@ impl<T, A: Allocator + Copy> Objects<T, A> {
         ensures value { result ≡ object_value self.old number }
         ensures rows { self.new ≡ without_object self.old number }
     {
-        let row = take_out(&mut self.rows, &mut self.numbers, number)?;
+        let row = self.rows.take(number)?;
+        // Dropped many at once, since objects are many, and walks over them are rare.
+        self.rows.pack_if_sparse();
         self.names.forget(&row.name);
         let ObjectRow {
             number: _,
@@ -298,7 +229,7 @@ impl<T, A: Allocator + Copy> Objects<T, A> {
     pub fn pack(&mut self)
         ensures { self.new ≡ self.old }
     {
-        self.numbers.pack();
+        self.rows.pack();
     }
 
     // Adds an object whose number and name are new, or returns its value if a growth is refused.
@@ -310,19 +241,18 @@ impl<T, A: Allocator + Copy> Objects<T, A> {
         ensures err { OnErr result (self.new ≡ self.old) }
         ensures handed { IfErr result (λ handed. handed ≡ value) }
     {
-        if make_room(&mut self.rows, &mut self.numbers).is_err() {
+        if self.rows.reserve_one().is_err() {
             return Err(value);
         }
         if self.names.reserve_one().is_err() {
             return Err(value);
         }
-        let row = ObjectRow {
+        let slot = self.rows.put(ObjectRow {
             number,
             name: name.copied(),
             value,
             link: StoredLink::of(Link::out()),
-        };
-        let slot = put(&mut self.rows, &mut self.numbers, number, row);
+        });
         self.names.insert(name, slot);
         Ok(())
     }

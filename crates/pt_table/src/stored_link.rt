@@ -1,4 +1,4 @@
-ghost use Rattle.std.specs.Prelude.{◌≡◌, Some, None, if◌then◌else◌};
+ghost use Rattle.std.specs.Prelude.{◌≡◌};
 
 use crate::link::Link;
 use std::marker::Model;
@@ -30,13 +30,6 @@ impl Model for StoredLink {
     } };
 }
 
-// Returns the number if `there` is true.
-fn number_if(there: bool, number: u64) -> Option<u64>
-    ensures { result ≡ if there then Some number else None }
-{
-    if there { Some(number) } else { None }
-}
-
 impl StoredLink {
     // Converts a link to the form in which it is stored.
     pub(crate) fn of(link: Link) -> Self
@@ -61,28 +54,8 @@ impl StoredLink {
             linked: self.linked,
             next_slot: self.next_slot,
             before_slot: self.before_slot,
-            next: number_if(self.has_next, self.next),
-            before: number_if(self.has_before, self.before),
+            next: self.has_next.then_some(self.next),
+            before: self.has_before.then_some(self.before),
         }
-    }
-
-    // Sets the next number and slot to those of another link, and leaves the rest unchanged.
-    pub(crate) fn set_next(&mut self, link: Link)
-        ensures { self.new
-            ≡ record self.old { next = link.next; next_slot = link.next_slot } }
-    {
-        self.next = link.next.unwrap_or(0);
-        self.has_next = link.next.is_some();
-        self.next_slot = link.next_slot;
-    }
-
-    // Sets the previous number and slot to those of another link, and leaves the rest unchanged.
-    pub(crate) fn set_before(&mut self, link: Link)
-        ensures { self.new
-            ≡ record self.old { before = link.before; before_slot = link.before_slot } }
-    {
-        self.before = link.before.unwrap_or(0);
-        self.has_before = link.before.is_some();
-        self.before_slot = link.before_slot;
     }
 }

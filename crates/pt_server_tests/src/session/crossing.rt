@@ -6,7 +6,7 @@ use super::remains::Remains;
 use crate::cores::{Shared, open};
 use pt_hub::{ClockPass, Left, SessionId};
 use pt_io::Counted;
-use pt_session::{ClockMode, Gate, session};
+use pt_session::{ClockMode, Gate, Retention, session};
 use pt_types::{Clock, Deadline};
 use std::alloc::Global;
 use std::io::{Read, Write};
@@ -165,6 +165,7 @@ fn play<L: Ledger + Send + Sync, R: Threads + Wait + HostClock + Sync>(
         &gate,
         ClockMode::Lines,
         None,
+        Retention::Complete,
     ) {
         Ok(end) => Some(Ended {
             left: end.left,

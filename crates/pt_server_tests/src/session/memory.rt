@@ -6,7 +6,7 @@ use super::remains::Remains;
 use crate::cores::{Shared, open};
 use pt_hub::SessionId;
 use pt_io::Faulty;
-use pt_session::{ClockMode, EndCause, Gate, SessionEnd, session};
+use pt_session::{ClockMode, EndCause, Gate, Retention, SessionEnd, session};
 use std::alloc::Global;
 use std::marker::Brand;
 use std::sync::Wait;
@@ -95,7 +95,17 @@ fn is_played<L: Ledger + Send + Sync, R: Threads + Wait + Sync>(
     let reader = Faulty::new(input, 7, case.read_fails_at);
     let writer = Faulty::new(Vec::new(alloc), 1, case.write_fails_at);
     let gate = ShutAt(case.shut_at);
-    match session(rt, alloc, reader, writer, shared, &gate, case.mode, None) {
+    match session(
+        rt,
+        alloc,
+        reader,
+        writer,
+        shared,
+        &gate,
+        case.mode,
+        None,
+        Retention::Complete,
+    ) {
         Ok(end) => is_as(&end, case) && remains.add(end.left, end.clock),
         Err(_) => false,
     }

@@ -6,7 +6,9 @@ ghost use Rattle.rtrb.specs.Ring.{sent, received};
 use crate::cores::{Shared, open};
 use pt_hub::SessionId;
 use pt_io::{Counted, Faulty};
-use pt_session::{ClockMode, EndCause, Gate, ReadEnd, WorkEnd, read_side, session, work_side};
+use pt_session::{
+    ClockMode, EndCause, Gate, ReadEnd, Retention, WorkEnd, read_side, session, work_side,
+};
 use rtrb::RingBuffer;
 use std::alloc::Global;
 use std::io::Read;
@@ -127,7 +129,17 @@ fn play_sides<L: Ledger + Send + Sync, R: Threads + Wait + HostClock + Sync>(
             requires clock { clock.moments ≡ [] }
         {
             let writer = Faulty::new(Vec::new(alloc), 4096, 0);
-            work_side(rt, alloc, writer, consumer, shared, session, clock, gate)
+            work_side(
+                rt,
+                alloc,
+                writer,
+                consumer,
+                shared,
+                session,
+                clock,
+                gate,
+                Retention::Complete,
+            )
         },
     );
     let counts = Counts {
@@ -158,6 +170,7 @@ fn play_session<L: Ledger + Send + Sync, R: Threads + Wait + HostClock + Sync>(
         gate,
         ClockMode::Lines,
         None,
+        Retention::Complete,
     )
     .ok()?;
     let counts = Counts {

@@ -5,7 +5,7 @@ ghost use Rattle.std.specs.Prelude.{◌≡◌, ◌^◌};
 use crate::cores::{Shared, open};
 use pt_hub::SessionId;
 use pt_io::Counted;
-use pt_session::{ClockMode, EndCause, Gate, session};
+use pt_session::{ClockMode, EndCause, Gate, Retention, session};
 use pt_types::{Clock, Deadline};
 use std::alloc::Global;
 use std::io::{Read, Write};
@@ -160,6 +160,7 @@ fn is_played<L: Ledger + Send + Sync, R: Threads + Wait + HostClock + Sync>(
         &gate,
         ClockMode::Lines,
         None,
+        Retention::Complete,
     ) {
         Ok(end) => {
             end.cause == EndCause::InputEnded

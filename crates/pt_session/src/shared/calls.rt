@@ -29,7 +29,8 @@ impl<C: LegalHistory, L: Ledger> Shared<C, L> {
         session: SessionId,
         priority: Priority,
     ) -> Result<Pass<L>, Refusal>
-        ensures pass { IfOk result (λ pass. (pass.priority ≡ priority) × (pass.receipts ≡ [])) }
+        ensures pass { IfOk result (λ pass. (pass.priority ≡ priority) × (pass.discarded ≡ [])
+            × (pass.receipts ≡ [])) }
         ensures ok { IfOk result (λ pass. Made (λ old new. Joins old priority new pass)) }
         ensures err { IfErr result (λ refusal. Found (λ hub. IsRefusedAs
             (refusal_with_seals (kept hub.desk).limit (past (kept hub.desk)) (event.Join priority))
@@ -163,7 +164,7 @@ impl<C: LegalHistory, L: Ledger> Shared<C, L> {
     /// Lets a client die, and returns what it leaves.
     pub fn die<R: Wait>(&self, rt: &R, pass: Pass<L>) -> Left<L>
         ensures left { (result.client ≡ pass.client) × (result.priority ≡ pass.priority)
-            × (result.receipts ≡ pass.receipts) }
+            × (result.discarded ≡ pass.discarded) × (result.receipts ≡ pass.receipts) }
         ensures dies { Made (λ old new. Leaves old new pass result) }
     {
         let mut room = self.enter(rt);
@@ -185,8 +186,9 @@ impl<C: LegalHistory, L: Ledger> Shared<C, L> {
         clock: Clock,
         moment: Moment,
     ) -> Result<(), Refusal>
-        ensures told { OnOk result (pass.new.moments
-            ≡ pass.old.moments ++ record { clock = clock; moment = moment } ∷ []) }
+        ensures told { OnOk result (pass.new ≡ record pass.old {
+          moments = pass.old.moments ++ record { clock = clock; moment = moment } ∷ [];
+        }) }
         ensures ok { OnOk result (Made (λ old new. Ticks old clock moment new)) }
         ensures err { IfErr result (λ refusal. Found (λ hub. IsRefusedAs
             (refusal_with_seals (kept hub.desk).limit (past (kept hub.desk))

@@ -58,9 +58,6 @@ settle-requires g c =
     (sym (entry-renewed s c.requires.whole v c.requires.accepted))
     c.in_ok-unsealed.ensures.ok)
 
-pub take_memory-requires : goal.take_memory-requires
-take_memory-requires g c = c.settle.ensures.roomy.read
-
 pub returns-clause-roomy : goal.returns-clause-roomy
 returns-clause-roomy g c = roomy-kept c.settle.new.body c.take_memory.new.self
     c.take_memory.ensures c.settle.ensures.roomy

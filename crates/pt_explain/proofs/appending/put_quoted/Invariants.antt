@@ -1,8 +1,10 @@
-use Rattle.std.proofs.Common.{◌≡◌, ◌++◌, drop, true}
+use Rattle.std.proofs.Common.{◌≡◌, ◌++◌, length, true}
 use Rattle.pt_explain.specs.Explanations.{quoted}
 use Rattle.pt_explain.proofs.appending.put_quoted.Given as goal
 
-abbrev pub invariant-loop-byte : goal.invariant-loop-byte
-invariant-loop-byte g l =
-    l.out.items ++ quoted l.begins (drop l.byte-index l.answers)
-    ≡ l.fn.out.items ++ quoted true l.fn.answers
+abbrev pub invariant-loop-rest : goal.invariant-loop-rest
+invariant-loop-rest g l =
+    l.out.items ++ quoted true l.rest ≡ l.fn.out.items ++ quoted true l.fn.answers
+
+abbrev pub decreases-loop-rest : goal.decreases-loop-rest
+decreases-loop-rest g l = length l.rest

@@ -26,6 +26,6 @@ returns-in_err-deliver-clause-err g c =
     told_fault c.from_residual-in_err-deliver.result Write
     (λ fault. IsStopped explains fault held known old writing) (rw why at gives.1)
     (cut_off explains held c.feed.new.self known
-    c.new-out.result.items c.explain_all.new.cutter (known_by c.explain_all.new.engine)
+    c.clear.new.self.items c.explain_all.new.cutter (known_by c.explain_all.new.engine)
     c.explain_all.new.out.items c.deref.result.now old writing c.in_ok-explain_all.ensures.ok
-    c.in-Ok.ensures.ok c.new-out.ensures.items c.deref.ensures.value c.in_err-deliver.ensures.err)
+    c.in-Ok.ensures.ok c.clear.ensures.items c.deref.ensures.value c.in_err-deliver.ensures.err)

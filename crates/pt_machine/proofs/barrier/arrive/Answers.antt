@@ -19,12 +19,6 @@ use Rattle.pt_machine.proofs.QueuedLeft.{can-stand-left, left-takes, queued-left
 use Rattle.pt_machine.proofs.barrier.arrive.Given.{Over}
 use Rattle.pt_machine.proofs.barrier.arrive.Goals as goal
 
-pub push_arrival-requires-clause-ready : goal.push_arrival-requires-clause-ready
-push_arrival-requires-clause-ready g c = c.requires.can.ready
-
-pub push_arrival-requires-clause-operation : goal.push_arrival-requires-clause-operation
-push_arrival-requires-clause-operation g c = c.requires.operation
-
 pub push_arrival-requires-clause-found : goal.push_arrival-requires-clause-found
 push_arrival-requires-clause-found g c =
     c.requires.can.asks.object ∙ ap (object_meant (past c.args.state.now)) c.requires.operation
@@ -50,7 +44,7 @@ its-place g c =
       moved = None;
     } in
     left-takes h ready.read.follows d c.args.call.now ready.step
-    seen.queue seen.admitted seen.made c.requires.can.queued o
+    seen c.requires.can.queued o
     (left-arrives h d c.args.call.now c.args.n.now c.args.request.now.object b
     (clock_of c.args.call.now) o c.requires.operation
     (c.requires.can.asks.object ∙ ap (object_meant h) c.requires.operation)
@@ -69,7 +63,7 @@ may-stand g c =
     let old = c.args.state.now in
     let seen = g.Q.WaitList.seen c.args.queues.now in
     can-stand-left (past old) c.requires.can.ready.read.follows c.args.c c.args.call.now
-    c.requires.can.ready.step seen.queue seen.admitted seen.made c.requires.can.queued
+    c.requires.can.ready.step seen c.requires.can.queued
     (past c.push_arrival.new.self)
     (past-adds old c.push_arrival.new.self (entry.Call c.args.c c.args.call.now None)
     c.push_arrival.ensures)
@@ -94,10 +88,10 @@ returns g c = record {
       let seen = g.Q.WaitList.seen c.args.queues.now in
       let next = g.Q.WaitList.seen c.insert.new.self in
       queued-left (past old) c.requires.can.ready.read.follows c.args.c c.args.call.now
-      c.requires.can.ready.step seen.queue seen.admitted seen.made c.requires.can.queued new
+      c.requires.can.ready.step seen c.requires.can.queued new
       (past-adds old c.push_arrival.new.self (entry.Call c.args.c c.args.call.now None)
       c.push_arrival.ensures)
-      next.queue next.admitted next.made
+      next
       (take-put new c.args.c c.object_named-b.result c.arriving.result (its-place g c.before)
       seen.queue next.queue c.insert.ensures.queues)
       c.insert.ensures.admitted c.insert.ensures.made;

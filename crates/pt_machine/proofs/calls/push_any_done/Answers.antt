@@ -1,46 +1,11 @@
-use Rattle.std.proofs.Common.{refl, sym, ap, ◌∙◌}
-use Rattle.std.proofs.lemmas.Bool.{false≢true}
+use Rattle.std.proofs.Common.{sym, ap, ◌∙◌}
 use Rattle.pt_types.specs.Shown.{shown_operation}
-use Rattle.pt_state.specs.Outer.{makes_object}
+use Rattle.pt_machine.proofs.QueuedAnswers.{pushes-on-ok}
 use Rattle.pt_machine.proofs.calls.push_any_done.Goals as goal
-
-pub push_made-requires-clause-ready : goal.push_made-requires-clause-ready
-push_made-requires-clause-ready g c = c.requires.ready
-
-pub push_made-requires-clause-queued : goal.push_made-requires-clause-queued
-push_made-requires-clause-queued g c = c.requires.queued
 
 pub push_made-requires-clause-operation : goal.push_made-requires-clause-operation
 push_made-requires-clause-operation g c =
     sym c.operation_of.ensures ∙ ap shown_operation c.in-Makes.is
 
-pub returns-in-Makes : goal.returns-in-Makes
-returns-in-Makes g c =
-    record {
-      ok = c.push_made.ensures.ok;
-      err = c.push_made.ensures.err;
-      reason = c.push_made.ensures.reason;
-      queued = c.push_made.ensures.queued;
-      enough = λ other.
-          let is = sym c.operation_of.ensures ∙ ap shown_operation c.in-Makes.is in
-          absurd (false≢true (sym other ∙ ap makes_object is));
-    }
-
-pub push_changed-requires-clause-ready : goal.push_changed-requires-clause-ready
-push_changed-requires-clause-ready g c = c.requires.ready
-
-pub push_changed-requires-clause-asks : goal.push_changed-requires-clause-asks
-push_changed-requires-clause-asks g c = c.requires.asks
-
-pub push_changed-requires-clause-queued : goal.push_changed-requires-clause-queued
-push_changed-requires-clause-queued g c = c.requires.queued
-
 pub returns-in_default : goal.returns-in_default
-returns-in_default g c =
-    record {
-      ok = c.push_changed.ensures.adds;
-      err = tt;
-      reason = tt;
-      enough = λ other. refl;
-      queued = c.push_changed.ensures.queued;
-    }
+returns-in_default g c = pushes-on-ok c.push_changed.ensures

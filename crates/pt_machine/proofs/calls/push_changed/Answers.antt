@@ -5,7 +5,7 @@ use Rattle.pt_types.specs.Shown.{shown_operation}
 use Rattle.pt_state.proofs.CallLemmas.{nearly-done}
 use Rattle.pt_state.specs.Calling.{is_plain}
 use Rattle.pt_state.specs.Outer.{makes_object}
-use Rattle.pt_machine.proofs.QueuedAnswers.{plain-queued}
+use Rattle.pt_machine.proofs.QueuedAnswers.{plain-pushes}
 use Rattle.pt_state.specs.Adds.{past}
 use Rattle.pt_state.specs.Requests.{object_meant}
 use Rattle.pt_machine.proofs.calls.push_changed.Goals as goal
@@ -19,7 +19,7 @@ either (inr b) f g = g b
 pub finish_long-requires : goal.finish_long-requires
 finish_long-requires g c =
     let idle = nearly-done c.args.state.now c.args.c c.args.call.now (Some told.Done)
-    c.requires.ready in
+    c.requires.can.ready in
     let is = sym c.operation_of.ensures in
     either c.in-Awaits.is
     (λ w. idle (Awaits w.0.now w.1.now w.2) refl (is ∙ ap shown_operation w.3) refl)
@@ -29,9 +29,6 @@ finish_long-requires g c =
     (let never : true ≡ false =
     sym (ap makes_object (is ∙ ap shown_operation w.2)) ∙ c.requires.other in cc)))
 
-pub push_ended-requires-clause-ready : goal.push_ended-requires-clause-ready
-push_ended-requires-clause-ready g c = c.requires.ready
-
 pub push_ended-requires-clause-operation : goal.push_ended-requires-clause-operation
 push_ended-requires-clause-operation g c =
     sym c.operation_of.ensures ∙ ap shown_operation c.in-Ends.is
@@ -39,19 +36,7 @@ push_ended-requires-clause-operation g c =
 pub push_ended-requires-clause-found : goal.push_ended-requires-clause-found
 push_ended-requires-clause-found g c =
     let is = sym c.operation_of.ensures ∙ ap shown_operation c.in-Ends.is in
-    c.requires.asks.object ∙ ap (object_meant (past c.args.state.now)) is
-
-pub push_ended-requires-clause-queued : goal.push_ended-requires-clause-queued
-push_ended-requires-clause-queued g c = c.requires.queued
-
-pub returns-in-Ends : goal.returns-in-Ends
-returns-in-Ends g c = record {
-  adds = c.push_ended.ensures.adds;
-  queued = c.push_ended.ensures.queued;
-}
-
-pub push_locked-requires-clause-ready : goal.push_locked-requires-clause-ready
-push_locked-requires-clause-ready g c = c.requires.ready
+    c.requires.can.asks.object ∙ ap (object_meant (past c.args.state.now)) is
 
 pub push_locked-requires-clause-operation : goal.push_locked-requires-clause-operation
 push_locked-requires-clause-operation g c =
@@ -60,21 +45,13 @@ push_locked-requires-clause-operation g c =
 pub push_locked-requires-clause-found : goal.push_locked-requires-clause-found
 push_locked-requires-clause-found g c =
     let is = sym c.operation_of.ensures ∙ ap shown_operation c.in-Acquires.is in
-    c.requires.asks.object ∙ ap (object_meant (past c.args.state.now)) is
+    c.requires.can.asks.object ∙ ap (object_meant (past c.args.state.now)) is
 
 pub returns-in-Acquires : goal.returns-in-Acquires
-returns-in-Acquires g c = record {
-  adds = c.push_locked.ensures;
-  queued = plain-queued c.args.state.now c.args.c c.args.call.now
-      (g.Q.WaitList.seen c.args.queues.now).queue (g.Q.WaitList.seen c.args.queues.now).admitted
-      (g.Q.WaitList.seen c.args.queues.now).made c.requires.queued c.push_locked.new.self
-      c.requires.ready
-      (ap is_plain (sym c.operation_of.ensures)
-      ∙ ap (λ d. is_plain (shown_operation d)) c.in-Acquires.is) c.push_locked.ensures;
-}
-
-pub push_unlock-requires-clause-ready : goal.push_unlock-requires-clause-ready
-push_unlock-requires-clause-ready g c = c.requires.ready
+returns-in-Acquires g c =
+    plain-pushes c.requires.can
+    (ap is_plain (sym c.operation_of.ensures)
+    ∙ ap (λ d. is_plain (shown_operation d)) c.in-Acquires.is) c.push_locked.ensures
 
 pub push_unlock-requires-clause-operation : goal.push_unlock-requires-clause-operation
 push_unlock-requires-clause-operation g c =
@@ -83,21 +60,13 @@ push_unlock-requires-clause-operation g c =
 pub push_unlock-requires-clause-found : goal.push_unlock-requires-clause-found
 push_unlock-requires-clause-found g c =
     let is = sym c.operation_of.ensures ∙ ap shown_operation c.in-Unlocks.is in
-    c.requires.asks.object ∙ ap (object_meant (past c.args.state.now)) is
+    c.requires.can.asks.object ∙ ap (object_meant (past c.args.state.now)) is
 
 pub returns-in-Unlocks : goal.returns-in-Unlocks
-returns-in-Unlocks g c = record {
-  adds = c.push_unlock.ensures;
-  queued = plain-queued c.args.state.now c.args.c c.args.call.now
-      (g.Q.WaitList.seen c.args.queues.now).queue (g.Q.WaitList.seen c.args.queues.now).admitted
-      (g.Q.WaitList.seen c.args.queues.now).made c.requires.queued c.push_unlock.new.self
-      c.requires.ready
-      (ap is_plain (sym c.operation_of.ensures)
-      ∙ ap (λ d. is_plain (shown_operation d)) c.in-Unlocks.is) c.push_unlock.ensures;
-}
-
-pub push_restored-requires-clause-ready : goal.push_restored-requires-clause-ready
-push_restored-requires-clause-ready g c = c.requires.ready
+returns-in-Unlocks g c =
+    plain-pushes c.requires.can
+    (ap is_plain (sym c.operation_of.ensures)
+    ∙ ap (λ d. is_plain (shown_operation d)) c.in-Unlocks.is) c.push_unlock.ensures
 
 pub push_restored-requires-clause-operation : goal.push_restored-requires-clause-operation
 push_restored-requires-clause-operation g c =
@@ -106,21 +75,13 @@ push_restored-requires-clause-operation g c =
 pub push_restored-requires-clause-found : goal.push_restored-requires-clause-found
 push_restored-requires-clause-found g c =
     let is = sym c.operation_of.ensures ∙ ap shown_operation c.in-Restores.is in
-    c.requires.asks.object ∙ ap (object_meant (past c.args.state.now)) is
+    c.requires.can.asks.object ∙ ap (object_meant (past c.args.state.now)) is
 
 pub returns-in-Restores : goal.returns-in-Restores
-returns-in-Restores g c = record {
-  adds = c.push_restored.ensures;
-  queued = plain-queued c.args.state.now c.args.c c.args.call.now
-      (g.Q.WaitList.seen c.args.queues.now).queue (g.Q.WaitList.seen c.args.queues.now).admitted
-      (g.Q.WaitList.seen c.args.queues.now).made c.requires.queued c.push_restored.new.self
-      c.requires.ready
-      (ap is_plain (sym c.operation_of.ensures)
-      ∙ ap (λ d. is_plain (shown_operation d)) c.in-Restores.is) c.push_restored.ensures;
-}
-
-pub push_rwunlock-requires-clause-ready : goal.push_rwunlock-requires-clause-ready
-push_rwunlock-requires-clause-ready g c = c.requires.ready
+returns-in-Restores g c =
+    plain-pushes c.requires.can
+    (ap is_plain (sym c.operation_of.ensures)
+    ∙ ap (λ d. is_plain (shown_operation d)) c.in-Restores.is) c.push_restored.ensures
 
 pub push_rwunlock-requires-clause-operation : goal.push_rwunlock-requires-clause-operation
 push_rwunlock-requires-clause-operation g c =
@@ -129,21 +90,13 @@ push_rwunlock-requires-clause-operation g c =
 pub push_rwunlock-requires-clause-found : goal.push_rwunlock-requires-clause-found
 push_rwunlock-requires-clause-found g c =
     let is = sym c.operation_of.ensures ∙ ap shown_operation c.in-Rwunlocks.is in
-    c.requires.asks.object ∙ ap (object_meant (past c.args.state.now)) is
+    c.requires.can.asks.object ∙ ap (object_meant (past c.args.state.now)) is
 
 pub returns-in-Rwunlocks : goal.returns-in-Rwunlocks
-returns-in-Rwunlocks g c = record {
-  adds = c.push_rwunlock.ensures;
-  queued = plain-queued c.args.state.now c.args.c c.args.call.now
-      (g.Q.WaitList.seen c.args.queues.now).queue (g.Q.WaitList.seen c.args.queues.now).admitted
-      (g.Q.WaitList.seen c.args.queues.now).made c.requires.queued c.push_rwunlock.new.self
-      c.requires.ready
-      (ap is_plain (sym c.operation_of.ensures)
-      ∙ ap (λ d. is_plain (shown_operation d)) c.in-Rwunlocks.is) c.push_rwunlock.ensures;
-}
-
-pub push_signal-requires-clause-ready : goal.push_signal-requires-clause-ready
-push_signal-requires-clause-ready g c = c.requires.ready
+returns-in-Rwunlocks g c =
+    plain-pushes c.requires.can
+    (ap is_plain (sym c.operation_of.ensures)
+    ∙ ap (λ d. is_plain (shown_operation d)) c.in-Rwunlocks.is) c.push_rwunlock.ensures
 
 pub push_signal-requires-clause-operation : goal.push_signal-requires-clause-operation
 push_signal-requires-clause-operation g c =
@@ -152,19 +105,7 @@ push_signal-requires-clause-operation g c =
 pub push_signal-requires-clause-found : goal.push_signal-requires-clause-found
 push_signal-requires-clause-found g c =
     let is = sym c.operation_of.ensures ∙ ap shown_operation c.in-Signals.is in
-    c.requires.asks.object ∙ ap (object_meant (past c.args.state.now)) is
-
-pub push_signal-requires-clause-queued : goal.push_signal-requires-clause-queued
-push_signal-requires-clause-queued g c = c.requires.queued
-
-pub returns-in-Signals : goal.returns-in-Signals
-returns-in-Signals g c = record {
-  adds = c.push_signal.ensures.adds;
-  queued = c.push_signal.ensures.queued;
-}
-
-pub push_broadcast-requires-clause-ready : goal.push_broadcast-requires-clause-ready
-push_broadcast-requires-clause-ready g c = c.requires.ready
+    c.requires.can.asks.object ∙ ap (object_meant (past c.args.state.now)) is
 
 pub push_broadcast-requires-clause-operation : goal.push_broadcast-requires-clause-operation
 push_broadcast-requires-clause-operation g c =
@@ -173,29 +114,15 @@ push_broadcast-requires-clause-operation g c =
 pub push_broadcast-requires-clause-found : goal.push_broadcast-requires-clause-found
 push_broadcast-requires-clause-found g c =
     let is = sym c.operation_of.ensures ∙ ap shown_operation c.in-Broadcasts.is in
-    c.requires.asks.object ∙ ap (object_meant (past c.args.state.now)) is
-
-pub push_broadcast-requires-clause-queued : goal.push_broadcast-requires-clause-queued
-push_broadcast-requires-clause-queued g c = c.requires.queued
-
-pub returns-in-Broadcasts : goal.returns-in-Broadcasts
-returns-in-Broadcasts g c = record {
-  adds = c.push_broadcast.ensures.adds;
-  queued = c.push_broadcast.ensures.queued;
-}
+    c.requires.can.asks.object ∙ ap (object_meant (past c.args.state.now)) is
 
 pub returns-in-Awaits : goal.returns-in-Awaits
-returns-in-Awaits g c = record {
-  adds = c.finish_long.ensures;
-  queued = let is = sym c.operation_of.ensures in
-      plain-queued c.args.state.now c.args.c c.args.call.now
-      (g.Q.WaitList.seen c.args.queues.now).queue (g.Q.WaitList.seen c.args.queues.now).admitted
-      (g.Q.WaitList.seen c.args.queues.now).made c.requires.queued c.finish_long.new.self
-      c.requires.ready
-      (ap is_plain is ∙ either c.in-Awaits.is (λ w. ap (λ d. is_plain (shown_operation d)) w.3)
-      (λ other. either other (λ w. ap (λ d. is_plain (shown_operation d)) w.1)
-      (λ w. absurd
-      (let never : true ≡ false =
-      sym (ap makes_object (is ∙ ap shown_operation w.2)) ∙ c.requires.other in cc))))
-      c.finish_long.ensures;
-}
+returns-in-Awaits g c =
+    let is = sym c.operation_of.ensures in
+    plain-pushes c.requires.can
+    (ap is_plain is ∙ either c.in-Awaits.is (λ w. ap (λ d. is_plain (shown_operation d)) w.3)
+    (λ other. either other (λ w. ap (λ d. is_plain (shown_operation d)) w.1)
+    (λ w. absurd
+    (let never : true ≡ false =
+    sym (ap makes_object (is ∙ ap shown_operation w.2)) ∙ c.requires.other in cc))))
+    c.finish_long.ensures

@@ -11,13 +11,14 @@ pub dismiss-requires-clause-nowhere : goal.dismiss-requires-clause-nowhere
 dismiss-requires-clause-nowhere g c = λ q.
     ap (stands_in c.args.c) (c.remove.ensures.queues q) ∙ without-stands c.args.c _
 
-pub returns-clause-queued : goal.returns-clause-queued
-returns-clause-queued g c =
-    let s = c.args.state.now in
-    let h = past s in
-    queued-adds s c.push_death.new.self (entry.Death c.args.c) _ _ _ c.push_death.ensures
-    (queued-death h c.args.c _ _ _ _ _ _
-    (λ q. c.dismiss.ensures.queues q ∙ c.remove.ensures.queues q)
-    (λ d. c.dismiss.ensures.admitted d
-    ∙ ap (λ b. not (c.args.c == d) && b) (c.remove.ensures.admitted d))
-    (λ o. c.dismiss.ensures.made o ∙ c.remove.ensures.made o) c.requires.queued)
+pub returns : goal.returns
+returns g c = record {
+  adds = c.push_death.ensures;
+  queued = let s = c.args.state.now in
+      queued-adds s c.push_death.new.self (entry.Death c.args.c) _ c.push_death.ensures
+      (queued-death (past s) c.args.c _ _
+      (λ q. c.dismiss.ensures.queues q ∙ c.remove.ensures.queues q)
+      (λ d. c.dismiss.ensures.admitted d
+      ∙ ap (λ b. not (c.args.c == d) && b) (c.remove.ensures.admitted d))
+      (λ o. c.dismiss.ensures.made o ∙ c.remove.ensures.made o) c.requires.queued);
+}

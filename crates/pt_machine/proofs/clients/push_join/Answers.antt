@@ -1,8 +1,9 @@
-use Rattle.std.proofs.Common.{refl, sym, ◌∙◌}
+use Rattle.std.proofs.Common.{sym, ◌∙◌}
+use Rattle.std.proofs.lemmas.Bool.{false≢true}
 use Rattle.pt_model.specs.declared.entry.Entry.TheVariants as entry
 use Rattle.pt_model.specs.Histories.{place}
 use Rattle.pt_state.specs.Adds.{past}
-use Rattle.pt_machine.proofs.QueuedSame.{queued-kept, queued-adds, queued-stays}
+use Rattle.pt_machine.proofs.QueuedSame.{queued-kept, queued-adds, queued-stays, stays-same}
 use Rattle.pt_machine.proofs.QueuedArrivals.{queued-join, no-room-yet, no-room-nowhere, room-back}
 use Rattle.pt_machine.proofs.clients.push_join.Goals as goal
 use Rattle.pt_history.proofs.Places.{place_of_next}
@@ -10,33 +11,25 @@ use Rattle.pt_history.proofs.Places.{place_of_next}
 pub admit-requires : goal.admit-requires
 admit-requires g c =
     let s = c.args.state.now in
-    no-room-yet (past s) c.len.result _ _ _ c.requires.ready.read.follows
+    no-room-yet (past s) c.len.result _ c.requires.ready.read.follows
     (c.len.ensures ∙ sym (place_of_next s.stored)) c.requires.queued
 
 pub dismiss-requires-clause-nowhere : goal.dismiss-requires-clause-nowhere
 dismiss-requires-clause-nowhere g c =
     let s = c.args.state.now in
-    let none = no-room-yet (past s) c.len.result _ _ _ c.requires.ready.read.follows
+    let none = no-room-yet (past s) c.len.result _ c.requires.ready.read.follows
     (c.len.ensures ∙ sym (place_of_next s.stored)) c.requires.queued in
     no-room-nowhere c.len.result (g.Q.WaitList.seen c.args.queues.now).queue
     (g.Q.WaitList.seen c.admit.new.self).queue (g.Q.WaitList.seen c.args.queues.now).admitted
     (g.met.Q.WaitList.admits c.args.queues.now c.len.result) none c.in_default.ensures.queues
 
-pub push_join-requires : goal.push_join-requires
-push_join-requires g c = c.requires.ready
-
 pub returns-in-Err : goal.returns-in-Err
 returns-in-Err g c = record {
   ok = tt;
-  err = record {
-    stored = refl;
-    read = c.requires.ready.read;
-    held = refl;
-    told = refl;
-  };
+  err = stays-same c.args.state.now c.requires.ready.read;
   reason = c.in-Err.ensures.refusal;
-  queued =
-      queued-kept (past c.args.state.now) _ _ _ _ _ _ c.in-Err.ensures.queues c.in-Err.ensures.err
+  enough = λ small. absurd (false≢true (sym small));
+  queued = queued-kept (past c.args.state.now) _ _ c.in-Err.ensures.queues c.in-Err.ensures.err
       c.in-Err.ensures.made c.requires.queued;
 }
 
@@ -45,11 +38,12 @@ returns-in-Ok g c = record {
   ok = c.in-Ok.ensures.ok;
   err = tt;
   reason = tt;
+  enough = λ small. absurd (false≢true (sym small));
   queued = let s = c.args.state.now in
       let h = past s in
-      queued-adds s c.push_join.new.self (entry.Join (place h) c.args.priority) _ _ _
+      queued-adds s c.push_join.new.self (entry.Join (place h) c.args.priority) _
       c.in-Ok.ensures.ok
-      (queued-join h c.len.result c.args.priority _ _ _ _ _ _ c.requires.ready.read.follows
+      (queued-join h c.len.result c.args.priority _ _ c.requires.ready.read.follows
       (c.len.ensures ∙ sym (place_of_next s.stored)) c.in_default.ensures.queues
       c.in_default.ensures.ok c.in_default.ensures.made c.requires.queued);
 }
@@ -59,13 +53,13 @@ returns-in-Err-push_join g c = record {
   ok = tt;
   err = c.in-Err-push_join.ensures.err;
   reason = c.in-Err-push_join.ensures.refusal;
+  enough = λ small. absurd (false≢true (sym small));
   queued = let s = c.args.state.now in
       let h = past s in
-      let none = no-room-yet h c.len.result _ _ _ c.requires.ready.read.follows
+      let none = no-room-yet h c.len.result _ c.requires.ready.read.follows
       (c.len.ensures ∙ sym (place_of_next s.stored)) c.requires.queued in
-      queued-stays s c.push_join.new.self _ _ _ c.in-Err-push_join.ensures.err
-      (queued-kept h _ _ _ _ _ _
-      (λ q. c.dismiss.ensures.queues q ∙ c.in_default.ensures.queues q)
+      queued-stays s c.push_join.new.self _ c.in-Err-push_join.ensures.err
+      (queued-kept h _ _ (λ q. c.dismiss.ensures.queues q ∙ c.in_default.ensures.queues q)
       (room-back c.len.result _ _ _ none c.in_default.ensures.ok c.dismiss.ensures.admitted)
       (λ o. c.dismiss.ensures.made o ∙ c.in_default.ensures.made o) c.requires.queued);
 }

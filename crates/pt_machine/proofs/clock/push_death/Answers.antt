@@ -26,38 +26,28 @@ pub drop_deadline-requires : goal.drop_deadline-requires
 drop_deadline-requires g c =
     let s = c.args.state.now in
     let o = c.in-Some.open.now in
-    own-deadlines s c.args.timers.now c.requires.ready.read c.requires.timed o
+    own-deadlines s c.args.timers.now c.requires.can.ready.read c.requires.timed o
     (client-in s.clients c.args.c o
     (sym c.open_of.ensures ∙ ap option_copied c.in-Some.is))
-
-pub push_death-requires-clause-ready : goal.push_death-requires-clause-ready
-push_death-requires-clause-ready g c = c.requires.ready
-
-pub push_death-requires-clause-queued : goal.push_death-requires-clause-queued
-push_death-requires-clause-queued g c = c.requires.queued
-
-pub open_of-requires : goal.open_of-requires
-open_of-requires g c = c.requires.ready.read
 
 -- the deadline of its open call is dropped, if it has one
 pub returns : goal.returns
 returns g c = record {
-  adds = c.push_death.ensures.adds;
-  queued = c.push_death.ensures.queued;
+  pushes = c.push_death.ensures;
   timed = let s = c.args.state.now in
-      let its = placed s c.requires.ready.read c.args.c (option_copied c.open_of.result)
+      let its = placed s c.requires.can.ready.read c.args.c (option_copied c.open_of.result)
       c.open_of.ensures in
       elim c.match-open_of.branch [
         | in-Some w ↦ rw w.timers-is
             (timed-death s c.push_death.new.state c.args.timers.now w.drop_deadline.new.timers
-            c.requires.ready.read c.requires.timed c.args.c w.in-Some.open.now.call.place
+            c.requires.can.ready.read c.requires.timed c.args.c w.in-Some.open.now.call.place
             c.push_death.ensures.adds
             (sym its ∙ ap (λ r. option_map (λ (o : Open). o.call.place) (option_copied r))
             w.in-Some.is)
             w.drop_deadline.ensures)
         | in_default w ↦ rw w.timers-is
             (timed-death-free s c.push_death.new.state c.args.timers.now c.args.timers.now
-            c.requires.ready.read c.requires.timed c.args.c c.push_death.ensures.adds
+            c.requires.can.ready.read c.requires.timed c.args.c c.push_death.ensures.adds
             (sym its ∙ ap (λ r. option_map (λ (o : Open). o.call.place) (option_copied r))
             w.in_default.is))
       ];

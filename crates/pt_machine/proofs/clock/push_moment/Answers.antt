@@ -8,6 +8,6 @@ pub returns : goal.returns
 returns g c = record {
   adds = c.push_moment.ensures;
   queued = queued-adds c.args.state.now c.push_moment.new.self
-      (entry.Moment c.args.clock c.args.moment) _ _ _ c.push_moment.ensures
-      (queued-moment (past c.args.state.now) c.args.clock c.args.moment _ _ _ c.requires.queued);
+      (entry.Moment c.args.clock c.args.moment) _ c.push_moment.ensures
+      (queued-moment (past c.args.state.now) c.args.clock c.args.moment _ c.requires.queued);
 }

@@ -1,49 +1,38 @@
+use Rattle.std.proofs.Common.{cond, Some, None, sym, ap, ◌∙◌, subst}
+use Rattle.pt_types.specs.Operations.{operation}
+use Rattle.pt_machine.proofs.NeedsMemory.{left-needs, small-untimed}
+use Rattle.pt_machine.proofs.QueuedSame.{stays-same}
 use Rattle.pt_machine.proofs.TimedStates.{just-set, none-next, taken, timed-left, timed-refused}
-use Rattle.std.proofs.Common.{refl, sym, subst}
 use Rattle.pt_state.specs.Adds.{past}
-use Rattle.pt_machine.specs.Timed.{AreTimed}
+use Rattle.pt_machine.specs.Timed.{AreTimed, good_of}
 use Rattle.pt_machine.proofs.clock.push_timed.Goals as goal
 
 -- no call has come at the next place
 pub set-requires-clause-unset : goal.set-requires-clause-unset
 set-requires-clause-unset g c =
-    none-next c.args.state.now c.args.timers.now c.args.c c.args.call.now c.requires.ready
+    none-next c.args.state.now c.args.timers.now c.args.c c.args.call.now c.requires.can.ready
     c.requires.timed c.len-place.result c.len-place.ensures
 
 pub set-requires-clause-good : goal.set-requires-clause-good
 set-requires-clause-good g c = c.requires.good
 
-pub push_waiting-requires : goal.push_waiting-requires
-push_waiting-requires g c = record {
-  ready = c.requires.ready;
-  asks = c.requires.asks;
-  queued = c.requires.queued;
-}
-
 -- its deadline is set
 pub returns-in-Ok : goal.returns-in-Ok
 returns-in-Ok g c = record {
-  ok = c.in-Ok.ensures.ok;
-  err = tt;
-  reason = tt;
-  queued = c.push_waiting.ensures.queued;
-  timed = timed-left c.args.state.now c.args.timers.now c.args.c c.args.call.now c.requires.ready
-      c.requires.timed c.args.deadline c.requires.deadline c.requires.good c.clock_of-clock.result
-      c.clock_of-clock.ensures c.len-place.result
-      c.len-place.ensures c.set.new.self c.in_default.ensures.ok c.push_waiting.new.state
-      c.in-Ok.ensures.ok;
+  pushes = left-needs (operation c.args.call.now) c.in-Ok.ensures;
+  timed = timed-left c.args.state.now c.args.timers.now c.args.c c.args.call.now
+      c.requires.can.ready c.requires.timed c.args.deadline c.requires.deadline c.requires.good
+      c.clock_of-clock.result c.clock_of-clock.ensures c.len-place.result c.len-place.ensures
+      c.set.new.self c.in_default.ensures.ok c.push_waiting.new.state c.in-Ok.ensures.ok;
 }
 
 -- and cancelled if the call is refused
 pub returns-in-Err-push_waiting : goal.returns-in-Err-push_waiting
 returns-in-Err-push_waiting g c = record {
-  ok = tt;
-  err = c.in-Err-push_waiting.ensures.err;
-  reason = c.in-Err-push_waiting.ensures.reason;
-  queued = c.push_waiting.ensures.queued;
-  timed = timed-refused c.args.state.now c.args.timers.now c.args.c c.args.call.now c.requires.ready
-      c.requires.timed c.args.deadline c.requires.deadline c.requires.good c.clock_of-clock.result
-      c.clock_of-clock.ensures c.len-place.result
+  pushes = left-needs (operation c.args.call.now) c.in-Err-push_waiting.ensures;
+  timed = timed-refused c.args.state.now c.args.timers.now c.args.c c.args.call.now
+      c.requires.can.ready c.requires.timed c.args.deadline c.requires.deadline c.requires.good
+      c.clock_of-clock.result c.clock_of-clock.ensures c.len-place.result
       c.len-place.ensures c.set.new.self c.in_default.ensures.ok c.push_waiting.new.state
       c.cancel.new.self c.in-Err-push_waiting.ensures.err
       (taken c.set.new.self c.cancel.new.self c.len-place.result c.clock_of-clock.result
@@ -54,14 +43,14 @@ returns-in-Err-push_waiting g c = record {
 
 pub returns-in-Err : goal.returns-in-Err
 returns-in-Err g c = record {
-  ok = tt;
-  err = record {
-    stored = refl;
-    read = c.requires.ready.read;
-    held = refl;
-    told = refl;
+  pushes = record {
+    ok = tt;
+    err = stays-same c.args.state.now c.requires.can.ready.read;
+    reason = c.in-Err.ensures.refusal;
+    enough = λ small. absurd (small-untimed (operation c.args.call.now) c.args.deadline
+        (ap good_of c.requires.deadline
+        ∙ ap (λ b. cond b None (Some c.args.deadline)) c.requires.good) small);
+    queued = c.requires.can.queued;
   };
-  reason = c.in-Err.ensures.refusal;
-  queued = c.requires.queued;
   timed = subst (AreTimed (past c.args.state.now)) (sym c.in-Err.ensures.err) c.requires.timed;
 }

@@ -13,7 +13,7 @@ use Rattle.pt_machine.specs.Queued.{CanStand, waiter}
 use Rattle.pt_machine.proofs.Broadcasts.{broadcasting}
 use Rattle.pt_machine.proofs.QueuedBroadcast.{rousing-begins, rousing-ends, rousing-stands}
 use Rattle.pt_machine.proofs.QueuedBroadcast.{rousing-shorter, rousing-next, rousing-takes}
-use Rattle.pt_machine.proofs.QueuedSame.{queued-lists}
+use Rattle.pt_machine.proofs.QueuedSame.{queued-kept}
 use Rattle.pt_machine.proofs.PlaceTakes.{Takes, take-admitted, take-nowhere, take-made, take-latest}
 use Rattle.pt_machine.proofs.PlaceTakes.{take-put}
 use Rattle.pt_machine.proofs.cond.push_broadcast.Given.{Over}
@@ -35,13 +35,13 @@ pub loop-first-init : goal.loop-first-init
 loop-first-init g c =
     rousing-begins
     (broadcasting c.args.state.now c.push_broadcast.new.self c.args.c c.args.call.now
-    c.args.n.now c.args.object c.unwrap-q.result c.requires.ready c.requires.operation
+    c.args.n.now c.args.object c.unwrap-q.result c.requires.can.ready c.requires.operation
     c.requires.found
-    c.unwrap-q.ensures c.push_broadcast.ensures) c.requires.queued
+    c.unwrap-q.ensures c.push_broadcast.ensures) c.requires.can.queued
 
 pub mutex_of_waits-m-requires-clause-cond : goal.mutex_of_waits-m-requires-clause-cond
 mutex_of_waits-m-requires-clause-cond g c =
-    cond-found (past c.args.state.now) c.requires.ready.read.follows c.args.n.now
+    cond-found (past c.args.state.now) c.requires.can.ready.read.follows c.args.n.now
     c.unwrap-q.result (sym c.requires.found ∙ c.unwrap-q.ensures)
 
 -- the first of the waits, after its move, is at its mutex
@@ -109,18 +109,6 @@ loop-first-preserved g c =
     (put g c) c.take_first.ensures.admitted c.take_first.ensures.made
     c.insert.ensures.admitted c.insert.ensures.made
 
-pub mutex_of_waits-m-requires-clause-read : goal.mutex_of_waits-m-requires-clause-read
-mutex_of_waits-m-requires-clause-read g c = c.requires.ready.read
-
-pub mutex_of_waits-m-requires-clause-queued : goal.mutex_of_waits-m-requires-clause-queued
-mutex_of_waits-m-requires-clause-queued g c = c.requires.queued
-
-pub push_broadcast-requires-clause-ready : goal.push_broadcast-requires-clause-ready
-push_broadcast-requires-clause-ready g c = c.requires.ready
-
-pub push_broadcast-requires-clause-operation : goal.push_broadcast-requires-clause-operation
-push_broadcast-requires-clause-operation g c = c.requires.operation
-
 pub push_broadcast-requires-clause-found : goal.push_broadcast-requires-clause-found
 push_broadcast-requires-clause-found g c = sym c.unwrap-q.ensures ∙ c.requires.found
 
@@ -129,8 +117,7 @@ returns g c = record {
   adds = c.push_broadcast.ensures;
   queued = let before = g.Q.WaitList.seen c.loop-first.queues in
       let after = g.Q.WaitList.seen c.take_first.new.self in
-      queued-lists (past c.push_broadcast.new.self) before.queue after.queue before.admitted
-      after.admitted before.made after.made
+      queued-kept (past c.push_broadcast.new.self) before after
       (left before.queue after.queue _ c.in_default.is c.take_first.ensures.none)
       c.take_first.ensures.admitted c.take_first.ensures.made
       (rousing-ends c.loop-first.invariant c.take_first.ensures.first c.in_default.is);

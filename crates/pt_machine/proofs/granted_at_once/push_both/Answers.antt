@@ -8,29 +8,11 @@ unwrap-o-requires g c =
     asks-for (past c.args.state.now) c.args.c c.args.call.now c.requires.granted
     c.args.request.now c.requires.asks
 
-pub push_had-requires-clause-ready : goal.push_had-requires-clause-ready
-push_had-requires-clause-ready g c = c.requires.ready
-
-pub push_had-requires-clause-next : goal.push_had-requires-clause-next
-push_had-requires-clause-next g c = c.requires.next
-
-pub push_had-requires-clause-granted : goal.push_had-requires-clause-granted
-push_had-requires-clause-granted g c = c.requires.granted
-
 pub push_had-requires-clause-object : goal.push_had-requires-clause-object
 push_had-requires-clause-object g c = sym c.requires.asks.object ∙ c.unwrap-o.ensures
 
 pub push_had-requires-clause-mutex : goal.push_had-requires-clause-mutex
 push_had-requires-clause-mutex g c = sym c.asks_for_mutex.ensures ∙ c.if-asks_for_mutex.true
-
-pub push_lock_had-requires-clause-ready : goal.push_lock_had-requires-clause-ready
-push_lock_had-requires-clause-ready g c = c.requires.ready
-
-pub push_lock_had-requires-clause-next : goal.push_lock_had-requires-clause-next
-push_lock_had-requires-clause-next g c = c.requires.next
-
-pub push_lock_had-requires-clause-granted : goal.push_lock_had-requires-clause-granted
-push_lock_had-requires-clause-granted g c = c.requires.granted
 
 pub push_lock_had-requires-clause-object : goal.push_lock_had-requires-clause-object
 push_lock_had-requires-clause-object g c = sym c.requires.asks.object ∙ c.unwrap-o.ensures

@@ -1,42 +1,27 @@
-use Rattle.std.proofs.Common.{refl, ◌∙◌}
+use Rattle.std.proofs.Common.{refl, sym, ap, ◌∙◌}
+use Rattle.std.proofs.lemmas.Bool.{false≢true}
+use Rattle.pt_state.specs.Outer.{makes_object}
 use Rattle.pt_machine.proofs.QueuedObjects.{make-unmade, make-empty, make-queued, make-undone}
 use Rattle.pt_state.specs.Adds.{past}
-use Rattle.pt_machine.proofs.QueuedSame.{queued-kept}
+use Rattle.pt_machine.proofs.QueuedSame.{queued-kept, stays-same}
 use Rattle.pt_machine.proofs.objects.push_made.Goals as goal
 
 pub make-requires : goal.make-requires
-make-requires g c =
-    make-unmade c.args.state.now c.args.c c.args.call.now c.requires.ready
-    (g.Q.WaitList.seen c.args.queues.now).queue (g.Q.WaitList.seen c.args.queues.now).admitted
-    (g.Q.WaitList.seen c.args.queues.now).made c.requires.queued c.len.result c.len.ensures
+make-requires g c = make-unmade c.requires.can c.len.result c.len.ensures
 
 pub discard-requires-clause-empty : goal.discard-requires-clause-empty
 discard-requires-clause-empty g c =
-    make-empty c.args.state.now c.args.c c.args.call.now c.requires.ready
-    (g.Q.WaitList.seen c.args.queues.now).queue (g.Q.WaitList.seen c.args.queues.now).admitted
-    (g.Q.WaitList.seen c.args.queues.now).made c.requires.queued
-    (g.Q.WaitList.seen c.make.new.self).queue
-    (g.met.Q.WaitList.makes c.args.queues.now) c.len.result
-    c.len.ensures c.make.ensures.queues
-
-pub push_made-requires-clause-ready : goal.push_made-requires-clause-ready
-push_made-requires-clause-ready g c = c.requires.ready
-
-pub push_made-requires-clause-operation : goal.push_made-requires-clause-operation
-push_made-requires-clause-operation g c = c.requires.operation
+    make-empty c.requires.can (g.Q.WaitList.seen c.make.new.self)
+    (g.met.Q.WaitList.makes c.args.queues.now) c.len.result c.len.ensures c.make.ensures.queues
 
 pub returns-in-Err : goal.returns-in-Err
 returns-in-Err g c = record {
   ok = tt;
-  err = record {
-    stored = refl;
-    read = c.requires.ready.read;
-    held = refl;
-    told = refl;
-  };
+  err = stays-same c.args.state.now c.requires.can.ready.read;
   reason = c.in-Err.ensures.refusal;
-  queued = queued-kept (past c.args.state.now) _ _ _ _ _ _ c.in-Err.ensures.queues
-      c.in-Err.ensures.admitted c.in-Err.ensures.err c.requires.queued;
+  enough = λ small. absurd (false≢true (sym small ∙ ap makes_object c.requires.operation));
+  queued = queued-kept (past c.args.state.now) _ _ c.in-Err.ensures.queues
+      c.in-Err.ensures.admitted c.in-Err.ensures.err c.requires.can.queued;
 }
 
 pub returns-in-Ok : goal.returns-in-Ok
@@ -44,14 +29,10 @@ returns-in-Ok g c = record {
   ok = c.in-Ok.ensures.ok;
   err = tt;
   reason = tt;
-  queued = make-queued c.args.state.now c.args.c c.args.call.now c.requires.ready
-      (g.Q.WaitList.seen c.args.queues.now).queue (g.Q.WaitList.seen c.args.queues.now).admitted
-      (g.Q.WaitList.seen c.args.queues.now).made c.requires.queued c.args.n.now c.args.kind
-      c.requires.operation c.push_made.new.self (g.Q.WaitList.seen c.make.new.self).queue
-      (g.Q.WaitList.seen c.make.new.self).admitted
-      (g.Q.WaitList.seen c.make.new.self).made c.len.result
-      c.len.ensures c.make.ensures.queues c.make.ensures.admitted c.in_default.ensures.ok
-      c.in-Ok.ensures.ok;
+  enough = λ small. refl;
+  queued = make-queued c.requires.can c.args.n.now c.args.kind c.requires.operation
+      c.push_made.new.self _ c.len.result c.len.ensures c.make.ensures.queues
+      c.make.ensures.admitted c.in_default.ensures.ok c.in-Ok.ensures.ok;
 }
 
 pub returns-in-Err-push_made : goal.returns-in-Err-push_made
@@ -59,13 +40,10 @@ returns-in-Err-push_made g c = record {
   ok = tt;
   err = c.in-Err-push_made.ensures.err;
   reason = c.in-Err-push_made.ensures.reason;
-  queued = make-undone c.args.state.now c.args.c c.args.call.now c.requires.ready
-      (g.Q.WaitList.seen c.args.queues.now).queue (g.Q.WaitList.seen c.args.queues.now).admitted
-      (g.Q.WaitList.seen c.args.queues.now).made c.requires.queued c.push_made.new.self
-      (g.Q.WaitList.seen c.discard.new.self).queue (g.Q.WaitList.seen c.discard.new.self).admitted
-      (g.Q.WaitList.seen c.make.new.self).made
-      (g.Q.WaitList.seen c.discard.new.self).made c.len.result
-      c.len.ensures (λ q. c.discard.ensures.queues q ∙ c.make.ensures.queues q)
+  enough = λ small. absurd (false≢true (sym small ∙ ap makes_object c.requires.operation));
+  queued = make-undone c.requires.can c.push_made.new.self (g.Q.WaitList.seen c.make.new.self)
+      (g.Q.WaitList.seen c.discard.new.self) c.len.result c.len.ensures
+      (λ q. c.discard.ensures.queues q ∙ c.make.ensures.queues q)
       (λ d. c.discard.ensures.admitted d ∙ c.make.ensures.admitted d) c.in_default.ensures.ok
       c.discard.ensures.made c.in-Err-push_made.ensures.err;
 }

@@ -15,21 +15,6 @@ pub priority_in_row-prio-requires-clause-alive : goal.priority_in_row-prio-requi
 priority_in_row-prio-requires-clause-alive g c =
     (called (past c.args.state.now) c.args.c c.args.call.now None c.requires.ready.step).alive
 
-pub priority_in_row-prio-requires-clause-read : goal.priority_in_row-prio-requires-clause-read
-priority_in_row-prio-requires-clause-read g c = c.requires.ready.read
-
-pub waiting-open-requires-clause-ready : goal.waiting-open-requires-clause-ready
-waiting-open-requires-clause-ready g c = c.requires.ready
-
-pub waiting-open-requires-clause-asks : goal.waiting-open-requires-clause-asks
-waiting-open-requires-clause-asks g c = c.requires.asks
-
-pub push_waiting-requires-clause-ready : goal.push_waiting-requires-clause-ready
-push_waiting-requires-clause-ready g c = c.requires.ready
-
-pub push_waiting-requires-clause-left : goal.push_waiting-requires-clause-left
-push_waiting-requires-clause-left g c = c.waiting-open.ensures
-
 -- the call takes its place at its object
 its-place : (g : Over) → (c : goal.After-waiter_of g)
     → Takes (past c.push_waiting.new.self) c.args.c c.object_in-o.result c.waiter_of.result
@@ -37,8 +22,8 @@ its-place g c =
     let old = c.args.state.now in
     let seen = g.Q.WaitList.seen c.args.queues.now in
     subst (λ (o : ℕ). Takes (past c.push_waiting.new.self) c.args.c o c.waiter_of.result)
-    (sym c.object_in-o.ensures) (left-takes (past old) c.requires.ready.read.follows c.args.c c.args.call.now
-    c.requires.ready.step seen.queue seen.admitted seen.made c.requires.queued
+    (sym c.object_in-o.ensures) (left-takes (past old) c.requires.ready.read.follows c.args.c
+    c.args.call.now c.requires.ready.step seen c.requires.queued
     c.waiting-open.result c.waiting-open.ensures (past c.push_waiting.new.self)
     (past-adds old c.push_waiting.new.self (entry.Call c.args.c c.args.call.now None)
     c.in-Ok.ensures.ok)
@@ -52,7 +37,7 @@ may-stand g c =
     let old = c.args.state.now in
     let seen = g.Q.WaitList.seen c.args.queues.now in
     can-stand-left (past old) c.requires.ready.read.follows c.args.c c.args.call.now
-    c.requires.ready.step seen.queue seen.admitted seen.made c.requires.queued
+    c.requires.ready.step seen c.requires.queued
     (past c.push_waiting.new.self)
     (past-adds old c.push_waiting.new.self (entry.Call c.args.c c.args.call.now None)
     c.in-Ok.ensures.ok)
@@ -90,10 +75,10 @@ returns-in-Ok g c = record {
       let seen = g.Q.WaitList.seen c.args.queues.now in
       let next = g.Q.WaitList.seen c.insert.new.self in
       queued-left (past old) c.requires.ready.read.follows c.args.c c.args.call.now
-      c.requires.ready.step seen.queue seen.admitted seen.made c.requires.queued new
+      c.requires.ready.step seen c.requires.queued new
       (past-adds old c.push_waiting.new.self (entry.Call c.args.c c.args.call.now None)
       c.in-Ok.ensures.ok)
-      next.queue next.admitted next.made
+      next
       (take-put new c.args.c c.object_in-o.result c.waiter_of.result (its-place g c.before)
       seen.queue next.queue c.insert.ensures.queues)
       c.insert.ensures.admitted c.insert.ensures.made;

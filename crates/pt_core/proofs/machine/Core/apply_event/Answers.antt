@@ -63,6 +63,3 @@ returns-clause-death g c = λ d is alive.
     c.deref_mut.ensures.value c.self.view_is in
     c.apply_accepted.ensures.death d is
     (subst (λ (k : Kept). is_alive (past k) d ≡ true) (sym view) alive)
-
-pub returns-clause-unsealed : goal.returns-clause-unsealed
-returns-clause-unsealed g c = c.apply_accepted.ensures.unsealed

@@ -1,4 +1,4 @@
-use Rattle.std.proofs.Common.{◌≡◌, ℕ, Bool, true, Some, None, sym, ap, ◌∙◌, subst}
+use Rattle.std.proofs.Common.{◌≡◌, ℕ, Bool, true, Some, None, refl, sym, ap, ◌∙◌, subst}
 use Rattle.std.specs.Bool.{OnTrue}
 use Rattle.pt_types.specs.declared.call.Call.{Call as Asked}
 use Rattle.pt_history.specs.Stored.{past_of}
@@ -50,51 +50,36 @@ push_granted_at_once-requires-clause-next g c =
     subst (λ (e : Entry). IsReadyAfter s e) known
     (ready-after s c.args.event.now c.requires.open c.requires.accepted)
 
-pub returns-in_ok-outcome-in-Call-clause-ok :
-    goal.returns-in_ok-outcome-in-Call-clause-ok
-returns-in_ok-outcome-in-Call-clause-ok g c =
-    let s = c.args.body.now in
-    let new = c.push_granted_at_once.new.self in
-    let known : entry_for (past s) c.args.event.now ≡ Call c.in-Call.c c.in-Call.call None =
-    ap (entry_for (past s)) c.in-Call.is
-    ∙ (granted (past s) c.args.event.now c.args.plan.now.at_once c.requires.planned.at_once
-    c.in-Call.c c.in-Call.call c.in-Call.is c.if-plan.true).waits in
-    begins-both s c.args.event.now c.requires.open c.requires.accepted new
-    (subst (λ (e : Entry). AddsBoth s e new) (sym known)
-    c.in_ok-outcome-in-Call.ensures.ok)
-
-pub returns-in_ok-outcome-in-Call-clause-told :
-    goal.returns-in_ok-outcome-in-Call-clause-told
-returns-in_ok-outcome-in-Call-clause-told g c = λ u st.
-    let s = c.args.body.now in
-    let new = c.push_granted_at_once.new.self in
-    let known : entry_for (past s) c.args.event.now ≡ Call c.in-Call.c c.in-Call.call None =
-    ap (entry_for (past s)) c.in-Call.is
-    ∙ (granted (past s) c.args.event.now c.args.plan.now.at_once c.requires.planned.at_once
-    c.in-Call.c c.in-Call.call c.in-Call.is c.if-plan.true).waits in
-    let begins = begins-both s c.args.event.now c.requires.open c.requires.accepted new
-    (subst (λ (e : Entry). AddsBoth s e new) (sym known)
-    c.in_ok-outcome-in-Call.ensures.ok) in
-    let x = c.in_ok-outcome-in-Call.outcome in
-    subst (λ (v : Event). IsToldStill v (Some x) (past_of u) (place (past s)))
-    (sym c.in-Call.is)
-    (told-settled new.stored u (place (past s)) x
-    begins.roomy.read.follows st.settling c.in_ok-outcome-in-Call.ensures.told)
-
-pub returns-in_ok-outcome-in-Call-clause-alone :
-    goal.returns-in_ok-outcome-in-Call-clause-alone
-returns-in_ok-outcome-in-Call-clause-alone g c = λ rests.
-    let s = c.args.body.now in
-    let new = c.push_granted_at_once.new.self in
-    subst (λ (v : Event). IsAlone new.stored v (place (past s))) (sym c.in-Call.is)
-    (subst (AnswersOwn (reads_of new.stored.start) new.stored.entries
-    (event.Call c.in-Call.c c.in-Call.call) (place (past s)))
-    (sym c.in_ok-outcome-in-Call.ensures.told) c.in_ok-outcome-in-Call.ensures.alone)
-
 pub push_granted_at_once-requires-clause-planned : goal.push_granted_at_once-requires-clause-planned
 push_granted_at_once-requires-clause-planned g c =
     subst (λ (v : Event). IsPlanned (past c.args.body.now) v c.args.plan.now) c.in-Call.is
     c.requires.planned
 
-pub returns-in_ok-outcome-in-Call-clause-rests : goal.returns-in_ok-outcome-in-Call-clause-rests
-returns-in_ok-outcome-in-Call-clause-rests g c = λ rests. c.in_ok-outcome-in-Call.ensures.rests
+pub returns-in_ok-outcome-in-Call : goal.returns-in_ok-outcome-in-Call
+returns-in_ok-outcome-in-Call g c =
+    let s = c.args.body.now in
+    let new = c.push_granted_at_once.new.self in
+    let known : entry_for (past s) c.args.event.now ≡ Call c.in-Call.c c.in-Call.call None =
+    ap (entry_for (past s)) c.in-Call.is
+    ∙ (granted (past s) c.args.event.now c.args.plan.now.at_once c.requires.planned.at_once
+    c.in-Call.c c.in-Call.call c.in-Call.is c.if-plan.true).waits in
+    let pushed = c.in_ok-outcome-in-Call.ensures in
+    let begins = begins-both s c.args.event.now c.requires.open c.requires.accepted new
+    (subst (λ (e : Entry). AddsBoth s e new) (sym known) pushed.ok) in
+    let x = c.in_ok-outcome-in-Call.outcome in
+    record {
+      ok = begins;
+      told = λ u st. subst (λ (v : Event). IsToldStill v (Some x) (past_of u) (place (past s)))
+          (sym c.in-Call.is)
+          (told-settled new.stored u (place (past s)) x
+          begins.roomy.read.follows st.settling pushed.told);
+      rests = λ rests. pushed.rests;
+      alone = λ rests. subst (λ (v : Event). IsAlone new.stored v (place (past s)))
+          (sym c.in-Call.is)
+          (subst (AnswersOwn (reads_of new.stored.start) new.stored.entries
+          (event.Call c.in-Call.c c.in-Call.call) (place (past s))) (sym pushed.told)
+          pushed.alone);
+      err = tt;
+      reason = tt;
+      enough = λ small. refl;
+    }

@@ -8,6 +8,18 @@ use Rattle.pt_engine.specs.Scripts.{lines_of_who, number_of}
 use Rattle.pt_engine.proofs.Stays.{stays_sound}
 use Rattle.pt_engine.proofs.engine.Engine.run_marked.Goals as goal
 
+pub invariant_of-self-in_err-note-in-Ok : goal.invariant_of-self-in_err-note-in-Ok
+invariant_of-self-in_err-note-in-Ok g c =
+    kept_lines (shown (g.C.LegalHistory.seen c.self.inside.core)) _ c.args.event.now
+    c.in-Ok.done c.self.invariant.0 c.in-Ok.ensures.ok c.self.inside.asked.entries
+    c.note.new.asked.entries c.self.inside.calls.items c.note.new.calls.items
+    c.args.line.now c.args.mark.now c.self.invariant.1 c.requires.mark
+    (subst
+    (λ rows. IsAsked c.in-Ok.done.outcome c.args.mark.now c.args.line.now rows
+    c.note.new.asked.entries)
+    c.reserve.ensures.entries c.note.ensures.asked)
+    c.note.ensures.calls
+
 pub invariant_of-self-in_err-greet-in-Ok : goal.invariant_of-self-in_err-greet-in-Ok
 invariant_of-self-in_err-greet-in-Ok g c =
     kept_lines (shown (g.C.LegalHistory.seen c.self.inside.core)) _ c.args.event.now
@@ -67,7 +79,7 @@ returns-in_ok-tell_from-in-Ok-clause-ok g c =
     c.args.line.now c.in-Ok.done c.args.mark.now c.args.out.now.items
     c.greet.new.out.items c.tell_from.new.out.items (ap known_by (sym c.self.view_is))
     c.self.invariant.0.limit
-    c.requires.mark c.in-Ok.ensures.ok c.note.ensures.names c.note.ensures.calls
+    c.requires.mark c.in-Ok.ensures.ok c.in_ok-note-in-Ok.ensures.names c.note.ensures.calls
     c.in_ok-greet-in-Ok.ensures.ok
     (told_alike (shown (g.C.LegalHistory.seen c.self.inside.core)) _ c.args.event.now c.in-Ok.done
     c.self.invariant.0 c.in-Ok.ensures.ok c.self.inside.asked.entries

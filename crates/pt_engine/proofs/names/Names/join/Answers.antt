@@ -13,8 +13,8 @@ give-requires g c =
     has_row (row_of c.self.inside.counts.rows c.in-Named.name)
     (subst (λ n. 0 < n) (sym (counted ∙ seen)) came)
 
-pub invariant_of-self : goal.invariant_of-self
-invariant_of-self g c =
+pub invariant_of-self-in-Named : goal.invariant_of-self-in-Named
+invariant_of-self-in-Named g c =
     let first = rw c.in-Named.is at c.requires.first in
     let known : Known =
     record {
@@ -25,6 +25,6 @@ invariant_of-self g c =
     subst
     (λ (rows : List (List ℕ × ℕ)).
     AreCounted c.give.new.self c.self.inside.total (record known { clients = rows }))
-    (sym c.and-self-inside.ensures)
+    (sym c.in_ok-push_client.ensures.ok)
     (joined_counted c.self.inside.counts c.give.new.self c.self.inside.total known
     c.in-Named.name c.args.client c.self.invariant c.give.ensures unknown)

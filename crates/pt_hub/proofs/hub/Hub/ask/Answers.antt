@@ -25,6 +25,7 @@ returns-in-Ok-default-Some-clause-ok g c =
       client = c.pass-2.inside.client;
       priority = c.pass-2.inside.priority;
       seen = c.pass-2.inside.seen;
+      discarded = c.pass-2.inside.discarded;
       receipts = c.pass-2.inside.receipts.items;
     } in
     let sends : Sends c.args.self.now c.args.pass.now c.args.call between pending
@@ -74,6 +75,7 @@ returns-in-Ok-default-Some-clause-pass g c =
         client = c.pass-2.inside.client;
         priority = c.pass-2.inside.priority;
         seen = c.pass-2.inside.seen;
+        discarded = c.pass-2.inside.discarded;
         receipts = rs;
       }) c.answer.ensures.items
           ∙ ap (λ (p : PassView). record p { receipts = answered p.receipts o })

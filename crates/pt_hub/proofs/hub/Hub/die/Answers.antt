@@ -74,6 +74,7 @@ returns-clause-left g c =
       client = c.pass.inside.client;
       priority = c.pass.inside.priority;
       joined = c.pass.inside.seen;
+      discarded = c.pass.inside.discarded;
       receipts = c.pass.inside.receipts.items;
       died_at = n;
       seen = c.match-die.deaths.1;

@@ -1,4 +1,4 @@
-use Rattle.std.proofs.Common.{arith, refl, sym, ap, ◌∙◌, subst, List}
+use Rattle.std.proofs.Common.{arith, refl, sym, ap, ◌∙◌, subst, length, List}
 use Rattle.pt_model.specs.declared.entry.Event.TheVariants as event
 use Rattle.pt_hub.specs.declared.pass.Receipt.{Receipt}
 use Rattle.pt_hub.specs.Desks.{Desk as Seen, kept}
@@ -47,7 +47,7 @@ returns-in-Ok-clause-ok g c =
     (joins old c.args.priority c.join.new.self c.count.new.self.total c.in-Ok.field-0
     c.in-Ok.ensures.ok c.in-Ok.ensures.account c.in-Ok.ensures.cells c.len-place.result
     c.len-place.ensures.value c.seen-seen.result c.seen-seen.ensures.there
-    c.new.result.items c.new.ensures.items)
+    c.new-discarded.result c.new.result.items c.new-discarded.ensures c.new.ensures.items)
 
 pub returns-in-Err-clause-err : goal.returns-in-Err-clause-err
 returns-in-Err-clause-err g c =
@@ -78,7 +78,13 @@ invariant_of-self-in-Err g c =
 pub invariant_of-result : goal.invariant_of-result
 invariant_of-result g c = (
   c.count.ensures.parts ∙ c.part-share.ensures.part,
-  omega (arith, c.count.ensures.amount, c.part-share.ensures.amount, c.new.ensures.len),
+  omega (
+    arith,
+    c.count.ensures.amount,
+    c.part-share.ensures.amount,
+    c.new.ensures.len,
+    ap (λ (xs : List Receipt). length xs) c.new-discarded.ensures,
+  ),
   subst (λ (rs : List Receipt). AreReceipts c.len-place.result rs) (sym c.new.ensures.items)
       (record { each = tt; rises = tt }),
   own-join (kept c.self.inside.desk) (kept c.join.new.self) c.join.new.self.core c.seen-seen.result

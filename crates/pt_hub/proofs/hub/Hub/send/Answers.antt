@@ -54,6 +54,7 @@ returns-in-Ok-clause-ok g c =
       client = c.pass.inside.client;
       priority = c.pass.inside.priority;
       seen = c.pass.inside.seen;
+      discarded = c.pass.inside.discarded;
       receipts = c.pass.inside.receipts.items;
     } in
     let new : HubView = record old { desk = c.call.new.self; booked = c.count.new.self.total } in
@@ -100,6 +101,7 @@ returns-in-Err-clause-unchanged g c = (
     client = c.pass.inside.client;
     priority = c.pass.inside.priority;
     seen = c.pass.inside.seen;
+    discarded = c.pass.inside.discarded;
     receipts = rs;
   }) c.has_room.ensures.items ∙ c.pass.view_is,
 )
@@ -130,6 +132,7 @@ returns-then-not-has_room-clause-unchanged g c = (
     client = c.pass.inside.client;
     priority = c.pass.inside.priority;
     seen = c.pass.inside.seen;
+    discarded = c.pass.inside.discarded;
     receipts = rs;
   }) c.has_room.ensures.items ∙ c.pass.view_is,
 )

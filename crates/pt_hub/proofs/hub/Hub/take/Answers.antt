@@ -24,6 +24,7 @@ returns-clause-some g c =
       client = c.pass.inside.client;
       priority = c.pass.inside.priority;
       seen = c.pass.inside.seen;
+      discarded = c.pass.inside.discarded;
       receipts = c.pass.inside.receipts.items;
     } in
     let reply = c.in_ok-reply.reply in

@@ -3,9 +3,6 @@ use Rattle.std.specs.Option.{option_copied}
 use Rattle.pt_table.specs.ObjectRows.{object_value}
 use Rattle.pt_machine.proofs.body.Body.arrival_service.Goals as goal
 
-pub barrier_service-requires-clause-read : goal.barrier_service-requires-clause-read
-barrier_service-requires-clause-read g c = c.requires
-
 pub barrier_service-requires-clause-stored : goal.barrier_service-requires-clause-stored
 barrier_service-requires-clause-stored g c =
     ap (object_value c.args.self.now.objects) (sym c.b.view_is)

@@ -13,6 +13,3 @@ mutex_found-requires-clause-read g c = rw c.self.view_is c.requires.read
 
 pub mutex_found-requires-clause-found : goal.mutex_found-requires-clause-found
 mutex_found-requires-clause-found g c = rw c.self.view_is c.requires.mutex
-
-pub condition-requires-clause-read : goal.condition-requires-clause-read
-condition-requires-clause-read g c = c.requires.read

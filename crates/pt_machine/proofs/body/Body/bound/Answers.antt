@@ -6,8 +6,5 @@ bound_at-requires-clause-read g c = rw c.self.view_is c.requires.read
 pub bound_at-requires-clause-cond : goal.bound_at-requires-clause-cond
 bound_at-requires-clause-cond g c = rw c.self.view_is c.requires.cond
 
-pub bound_at-requires-clause-queued : goal.bound_at-requires-clause-queued
-bound_at-requires-clause-queued g c = c.self.invariant.0
-
 pub returns : goal.returns
 returns g c = rw (← c.self.view_is) c.bound_at.ensures

@@ -8,9 +8,6 @@ use Rattle.pt_touched.specs.Touched.{touched_by}
 use Rattle.pt_machine.specs.Planned.{HasOperation, HasRequest, entry_with}
 use Rattle.pt_machine.proofs.body.Body.change_by.Goals as goal
 
-pub change_by_call-requires-clause-read : goal.change_by_call-requires-clause-read
-change_by_call-requires-clause-read g c = c.requires.read
-
 pub change_by_call-requires-clause-does : goal.change_by_call-requires-clause-does
 change_by_call-requires-clause-does g c =
     subst (HasOperation (Call c.in-Call.c c.in-Call.call))

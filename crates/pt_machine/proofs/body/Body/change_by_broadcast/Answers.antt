@@ -12,9 +12,3 @@ pub bound-requires-clause-cond : goal.bound-requires-clause-cond
 bound-requires-clause-cond g c =
     cond-found (past c.args.self.now) c.requires.read.follows c.args.n.now c.in-Some.q
     (sym c.requires.found ∙ c.in-Some.is)
-
-pub waiting-requires-clause-read : goal.waiting-requires-clause-read
-waiting-requires-clause-read g c = c.requires.read
-
-pub bound-requires-clause-read : goal.bound-requires-clause-read
-bound-requires-clause-read g c = c.requires.read

@@ -20,22 +20,10 @@ returns-in-None g c =
       small = change.small;
     }
 
-pub change_if_waiting-requires-clause-read : goal.change_if_waiting-requires-clause-read
-change_if_waiting-requires-clause-read g c = c.requires.read
-
-pub change_if_waiting-requires-clause-does : goal.change_if_waiting-requires-clause-does
-change_if_waiting-requires-clause-does g c = c.requires.does
-
-pub change_if_waiting-requires-clause-asks : goal.change_if_waiting-requires-clause-asks
-change_if_waiting-requires-clause-asks g c = c.requires.asks
-
 pub change_if_waiting-requires-clause-step : goal.change_if_waiting-requires-clause-step
 change_if_waiting-requires-clause-step g c =
     let h = past c.args.self.now in
     subst (λ a. Step h (Call c.args.c c.args.call.now a)) c.in-None.is c.requires.step
-
-pub change_if_done-requires-clause-read : goal.change_if_done-requires-clause-read
-change_if_done-requires-clause-read g c = c.requires.read
 
 pub change_if_done-requires-clause-asks : goal.change_if_done-requires-clause-asks
 change_if_done-requires-clause-asks g c =

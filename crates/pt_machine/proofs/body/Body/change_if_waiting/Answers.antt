@@ -30,12 +30,6 @@ returns-in-Arrives-clause-uses g c =
 pub returns-in-Arrives-clause-small : goal.returns-in-Arrives-clause-small
 returns-in-Arrives-clause-small g c = omega arith
 
-pub change_by_wait-requires-clause-read : goal.change_by_wait-requires-clause-read
-change_by_wait-requires-clause-read g c = c.requires.read
-
-pub change_by_wait-requires-clause-step : goal.change_by_wait-requires-clause-step
-change_by_wait-requires-clause-step g c = c.requires.step
-
 pub change_by_wait-requires-clause-operation : goal.change_by_wait-requires-clause-operation
 change_by_wait-requires-clause-operation g c =
     sym c.requires.does ∙ ap shown_operation c.in-Awaits.is

@@ -7,9 +7,6 @@ use Rattle.pt_machine.specs.Planned.{HasOperation, HasRequest, IsAtOnce, KnowsUn
 use Rattle.pt_machine.specs.Planned.{entry_with}
 use Rattle.pt_machine.proofs.body.Body.is_at_once.Goals as goal
 
-pub is_granted_at_once-requires-clause-read : goal.is_granted_at_once-requires-clause-read
-is_granted_at_once-requires-clause-read g c = c.requires.read
-
 pub is_granted_at_once-requires-clause-does : goal.is_granted_at_once-requires-clause-does
 is_granted_at_once-requires-clause-does g c =
     subst (HasOperation (Call c.in-Call.c c.in-Call.call))

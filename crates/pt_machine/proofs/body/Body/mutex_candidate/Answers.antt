@@ -12,9 +12,6 @@ use Rattle.pt_machine.proofs.CandidateRows.{if_left, if_taken, mutex-served, mut
 use Rattle.pt_machine.proofs.CandidateRows.{mutex-free, mutex-plain}
 use Rattle.pt_machine.proofs.body.Body.mutex_candidate.Goals as goal
 
-pub first_at-requires-clause-read : goal.first_at-requires-clause-read
-first_at-requires-clause-read g c = c.requires.read
-
 pub open_of-requires : goal.open_of-requires
 open_of-requires g c = rw c.self.view_is c.requires.read
 

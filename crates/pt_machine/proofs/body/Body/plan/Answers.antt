@@ -68,39 +68,3 @@ returns g c = record {
       c.self.invariant.3.needs ∙ ap (λ s. need (past s)) c.self.view_is in
       needs-few _ _ _ _ before (need-most s c.requires.read) c.change_by-change.ensures.small;
 }
-
-pub request-request-requires-clause-read : goal.request-request-requires-clause-read
-request-request-requires-clause-read g c = c.requires.read
-
-pub request-request-requires-clause-does : goal.request-request-requires-clause-does
-request-request-requires-clause-does g c = c.operation_in-operation.ensures
-
-pub answer_at_once-answer-requires-clause-read : goal.answer_at_once-answer-requires-clause-read
-answer_at_once-answer-requires-clause-read g c = c.requires.read
-
-pub answer_at_once-answer-requires-clause-does : goal.answer_at_once-answer-requires-clause-does
-answer_at_once-answer-requires-clause-does g c = c.operation_in-operation.ensures
-
-pub answer_at_once-answer-requires-clause-asks : goal.answer_at_once-answer-requires-clause-asks
-answer_at_once-answer-requires-clause-asks g c = c.request-request.ensures
-
-pub change_by-change-requires-clause-read : goal.change_by-change-requires-clause-read
-change_by-change-requires-clause-read g c = c.requires.read
-
-pub change_by-change-requires-clause-does : goal.change_by-change-requires-clause-does
-change_by-change-requires-clause-does g c = c.operation_in-operation.ensures
-
-pub change_by-change-requires-clause-asks : goal.change_by-change-requires-clause-asks
-change_by-change-requires-clause-asks g c = c.request-request.ensures
-
-pub is_at_once-requires-clause-read : goal.is_at_once-requires-clause-read
-is_at_once-requires-clause-read g c = c.requires.read
-
-pub is_at_once-requires-clause-does : goal.is_at_once-requires-clause-does
-is_at_once-requires-clause-does g c = c.operation_in-operation.ensures
-
-pub is_at_once-requires-clause-asks : goal.is_at_once-requires-clause-asks
-is_at_once-requires-clause-asks g c = c.request-request.ensures
-
-pub is_at_once-requires-clause-enters : goal.is_at_once-requires-clause-enters
-is_at_once-requires-clause-enters g c = c.answer_at_once-answer.ensures

@@ -41,8 +41,5 @@ arrive-requires-clause-can g c = record {
   queued = c.self.invariant.0;
 }
 
-pub arrive-requires-clause-operation : goal.arrive-requires-clause-operation
-arrive-requires-clause-operation g c = c.requires.operation
-
 pub returns : goal.returns
 returns g c = rw (← c.self.view_is) c.arrive.ensures.adds

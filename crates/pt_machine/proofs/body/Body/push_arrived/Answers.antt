@@ -9,18 +9,6 @@ use Rattle.pt_machine.specs.Services.{IsService}
 use Rattle.pt_machine.proofs.ArrivalsAtRest.{rests-arrived, serves-arrived}
 use Rattle.pt_machine.proofs.body.Body.push_arrived.Goals as goal
 
-pub push_arrival-requires-clause-ready : goal.push_arrival-requires-clause-ready
-push_arrival-requires-clause-ready g c = c.requires.ready
-
-pub push_arrival-requires-clause-operation : goal.push_arrival-requires-clause-operation
-push_arrival-requires-clause-operation g c = c.requires.operation
-
-pub push_arrival-requires-clause-planned : goal.push_arrival-requires-clause-planned
-push_arrival-requires-clause-planned g c = c.requires.planned
-
-pub push_arrival-requires-clause-waits : goal.push_arrival-requires-clause-waits
-push_arrival-requires-clause-waits g c = c.requires.waits
-
 pub push_first-requires-clause-read : goal.push_first-requires-clause-read
 push_first-requires-clause-read g c = c.push_arrival.ensures.read
 

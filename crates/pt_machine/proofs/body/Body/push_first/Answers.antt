@@ -50,9 +50,3 @@ returns-in-Call g c = λ w i serves.
     c.push_service.ensures w
     (subst (λ d. call_of (open_calls h) d ≡ Some w) own
     (call_of-open h c.requires.read.follows w i))
-
-pub push_service-requires-clause-read : goal.push_service-requires-clause-read
-push_service-requires-clause-read g c = c.requires.read
-
-pub push_full-requires-clause-read : goal.push_full-requires-clause-read
-push_full-requires-clause-read g c = c.requires.read

@@ -58,7 +58,7 @@ push_trip-requires-clause-arrived g c =
     let queued : IsQueued h seen = rw (← c.self.view_is) c.self.invariant.0 in
     let arrived : AreArrivals h c.args.b (seen.queue c.args.b) =
     subst (λ o. AreArrivals h o (seen.queue o)) w.1.1.1
-    (arrivals-queued h w.0 seen.queue seen.admitted seen.made c.requires.read.follows w.1.0
+    (arrivals-queued h w.0 seen c.requires.read.follows w.1.0
     w.1.1.0 queued) in
     rw c.self.view_is arrived
 
@@ -108,8 +108,8 @@ invariant_of-self g c =
     rw (← c.self.view_is) c.self.invariant.2 in
     let reserved : IsReserved h c.self.inside.need = rw (← c.self.view_is) c.self.invariant.3 in
     let queued : IsQueued h old = rw (← c.self.view_is) c.self.invariant.0 in (
-      trip-queued s new w.0 b old.queue next.queue old.admitted next.admitted old.made next.made
-          read w.1.0 w.1.1.0 w.1.1.1 emptied.admitted emptied.made queued emptied.queues adds,
+      trip-queued s new w.0 b old next read w.1.0 w.1.1.0 w.1.1.1 emptied.admitted emptied.made
+          queued emptied.queues adds,
       timed-tripped s new c.self.inside.timers c.self.inside.timers read timed b adds,
       trip-touched s new c.self.inside.touched c.self.inside.entering b adds touched,
       reserved-forced s new (Trip b) adds c.self.inside.need _ reserved

@@ -77,14 +77,9 @@ invariant_of-self g c =
     let adds : Adds old (service (past old) w) new =
     subst (λ (e : Entry). Adds old e new)
     (sym (serves-mutex (past old) w c.args.m c.requires.mutex)) gives.adds in (
-      queued-granted old new o (g.Q.WaitList.seen c.self.inside.queues).queue
-          (g.Q.WaitList.seen c.remove.new.self).queue
-          (g.Q.WaitList.seen c.self.inside.queues).admitted
-          (g.Q.WaitList.seen c.remove.new.self).admitted
-          (g.Q.WaitList.seen c.self.inside.queues).made
-          (g.Q.WaitList.seen c.remove.new.self).made
-          read known c.remove.ensures.admitted c.remove.ensures.made c.self.invariant.0 adds
-          (no_arrival w.role w.object c.args.m c.requires.mutex) c.remove.ensures.queues,
+      queued-granted o (record { ready = ready; queued = c.self.invariant.0 }) known
+          c.remove.ensures.admitted c.remove.ensures.made c.remove.ensures.queues adds
+          (no_arrival w.role w.object c.args.m c.requires.mutex),
       timed-served old new c.self.inside.timers c.drop_deadline.new.timers read
           c.self.invariant.1 o known
           c.drop_deadline.ensures adds,

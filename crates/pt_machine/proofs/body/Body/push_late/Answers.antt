@@ -11,20 +11,9 @@ use Rattle.pt_machine.proofs.OpenRowCalls.{row-goal}
 use Rattle.pt_machine.proofs.TimedStates.{own-deadlines, timed-late}
 use Rattle.pt_machine.proofs.body.Body.push_late.Goals as goal
 
-pub used_by_expiry-used-requires-clause-read : goal.used_by_expiry-used-requires-clause-read
-used_by_expiry-used-requires-clause-read g c = c.requires.ready.read
-
-pub used_by_expiry-used-requires-clause-step : goal.used_by_expiry-used-requires-clause-step
-used_by_expiry-used-requires-clause-step g c = c.requires.ready.step
-
-pub used_by_expiry-used-requires-clause-known : goal.used_by_expiry-used-requires-clause-known
-used_by_expiry-used-requires-clause-known g c = c.requires.known
-
-pub push_expire-requires-clause-ready : goal.push_expire-requires-clause-ready
-push_expire-requires-clause-ready g c = rw c.self.view_is c.requires.ready
-
-pub push_expire-requires-clause-queued : goal.push_expire-requires-clause-queued
-push_expire-requires-clause-queued g c = c.self.invariant.0
+pub push_expire-requires-clause-can : goal.push_expire-requires-clause-can
+push_expire-requires-clause-can g c =
+    record { ready = rw c.self.view_is c.requires.ready; queued = c.self.invariant.0 }
 
 pub push_expire-requires-clause-known : goal.push_expire-requires-clause-known
 push_expire-requires-clause-known g c = rw c.self.view_is c.requires.known
@@ -62,7 +51,7 @@ invariant_of-self g c =
       c.push_expire.ensures.queued,
       timed-late old new c.self.inside.timers c.drop_deadline.new.timers ready.read
           c.self.invariant.1 late known c.drop_deadline.ensures c.push_expire.ensures.adds,
-      touched-forced old new (Some c.goal_of.result) c.self.inside.entering (Expire late.call.place) refl
+      touched-forced old new (Some c.goal_of.result) c.self.inside.entering e refl
           c.push_expire.ensures.adds
           (ap Some c.goal_of.ensures
           ∙ row-goal (past old) old.clients ready.read.follows ready.read.callers late known)

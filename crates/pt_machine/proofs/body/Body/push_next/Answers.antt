@@ -125,15 +125,6 @@ returns-in-Some-first_due g c = record {
 pub first_orphan-requires : goal.first_orphan-requires
 first_orphan-requires g c = rw c.self.view_is c.requires.read
 
-pub first_due-requires-clause-read : goal.first_due-requires-clause-read
-first_due-requires-clause-read g c = c.requires.read
-
-pub push_first-requires-clause-read : goal.push_first-requires-clause-read
-push_first-requires-clause-read g c = c.requires.read
-
-pub push_overdue-requires-clause-read : goal.push_overdue-requires-clause-read
-push_overdue-requires-clause-read g c = c.requires.read
-
 pub returns-in-None : goal.returns-in-None
 returns-in-None g c = record {
   pushed = λ pushed. absurd (false≢true pushed);

@@ -12,8 +12,8 @@ use Rattle.pt_machine.proofs.body.Body.push_outer.Goals as goal
 
 pub invariant_of-self : goal.invariant_of-self
 invariant_of-self g c =
-    let stored = sym c.in_err-push_outer.ensures.err.stored in (
-      c.push_outer.ensures.queued,
+    let stored = sym c.in_err-push_outer.ensures.pushes.err.stored in (
+      c.push_outer.ensures.pushes.queued,
       c.push_outer.ensures.timed,
       subst (λ s. IsTouched (past_of s) c.self.inside.touched c.self.inside.entering) stored
           c.self.invariant.2,
@@ -28,8 +28,8 @@ invariant_of-self-2 g c =
     let planned : IsPlanned (past old) v c.args.plan.now = rw c.self.view_is c.requires.planned in
     let adds : Adds old e c.push_outer.new.state =
     subst (λ (x : Entry). Adds old x c.push_outer.new.state) planned.enters
-    c.in_ok-push_outer.ensures.ok in (
-      c.push_outer.ensures.queued,
+    c.in_ok-push_outer.ensures.pushes.ok in (
+      c.push_outer.ensures.pushes.queued,
       c.push_outer.ensures.timed,
       touched-outer old c.push_outer.new.state c.args.plan.now.touched
           c.caller_of-entering.result e adds (event-outer (past old) v) planned.touches
@@ -37,22 +37,19 @@ invariant_of-self-2 g c =
       reserved-outer old c.push_outer.new.state e adds c.args.plan.now.need planned.needs,
     )
 
-pub push_outer-requires-clause-ready : goal.push_outer-requires-clause-ready
-push_outer-requires-clause-ready g c =
+pub push_outer-requires-clause-can : goal.push_outer-requires-clause-can
+push_outer-requires-clause-can g c =
     let old = c.self.inside.state in
     let v = c.args.event.now in
     let planned : IsPlanned (past old) v c.args.plan.now = rw c.self.view_is c.requires.planned in
     let ready : IsReadyFor old (entry_for (past old) v) = rw c.self.view_is c.requires.ready in
-    subst (λ (x : Entry). IsReadyFor old x) (sym planned.enters) ready
+    record {
+      ready = subst (λ (x : Entry). IsReadyFor old x) (sym planned.enters) ready;
+      queued = c.self.invariant.0;
+    }
 
 pub push_outer-requires-clause-asks : goal.push_outer-requires-clause-asks
 push_outer-requires-clause-asks g c = rw c.self.view_is c.requires.planned.asks
-
-pub push_outer-requires-clause-queued : goal.push_outer-requires-clause-queued
-push_outer-requires-clause-queued g c = c.self.invariant.0
-
-pub push_outer-requires-clause-timed : goal.push_outer-requires-clause-timed
-push_outer-requires-clause-timed g c = c.self.invariant.1
 
 pub returns : goal.returns
 returns g c = record {
@@ -62,7 +59,7 @@ returns g c = record {
       let planned : IsPlanned (past old) v c.args.plan.now = rw c.self.view_is c.requires.planned in
       subst (λ s. Adds s (entry_for (past s) v) c.push_outer.new.state) c.self.view_is
       (subst (λ (x : Entry). Adds old x c.push_outer.new.state) planned.enters
-      c.in_ok-push_outer.ensures.ok);
+      c.in_ok-push_outer.ensures.pushes.ok);
   err = tt;
   reason = tt;
   enough = λ small. refl;

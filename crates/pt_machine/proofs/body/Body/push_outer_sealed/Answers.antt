@@ -34,21 +34,6 @@ returns-in-Err g c = record {
   reason = c.in-Err.ensures.reason;
 }
 
-pub seal_with_room-requires-clause-read : goal.seal_with_room-requires-clause-read
-seal_with_room-requires-clause-read g c = c.requires.read
-
-pub seal_with_room-requires-clause-settled : goal.seal_with_room-requires-clause-settled
-seal_with_room-requires-clause-settled g c = c.requires.settled
-
-pub seal_with_room-requires-clause-places : goal.seal_with_room-requires-clause-places
-seal_with_room-requires-clause-places g c = c.requires.places
-
-pub seal_with_room-requires-clause-room : goal.seal_with_room-requires-clause-room
-seal_with_room-requires-clause-room g c = c.requires.room
-
-pub plan-plan-requires-clause-read : goal.plan-plan-requires-clause-read
-plan-plan-requires-clause-read g c = c.in_ok-before.ensures.ok.read
-
 pub plan-plan-requires-clause-step : goal.plan-plan-requires-clause-step
 plan-plan-requires-clause-step g c =
     subst (λ (h : History). Step h (entry_for h c.args.event.now))

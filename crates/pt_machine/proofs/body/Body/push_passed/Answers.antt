@@ -32,32 +32,20 @@ used-up s o read known plain n is =
     let row = row-reserved (past s) s.clients read.follows read.callers o known in
     omega (arith, none, is, row)
 
-pub push_granted-requires-clause-ready : goal.push_granted-requires-clause-ready
-push_granted-requires-clause-ready g c =
+pub push_granted-requires-clause-can : goal.push_granted-requires-clause-can
+push_granted-requires-clause-can g c =
     let old = c.self.inside.state in
     let ready : IsReadyFor old (service (past old) (called c.args.found.now)) =
     rw c.self.view_is c.requires.ready in
-    ready
-
-pub push_granted-requires-clause-queued : goal.push_granted-requires-clause-queued
-push_granted-requires-clause-queued g c = c.self.invariant.0
-
-pub push_granted-requires-clause-timed : goal.push_granted-requires-clause-timed
-push_granted-requires-clause-timed g c = c.self.invariant.1
+    record { ready = ready; queued = c.self.invariant.0 }
 
 pub push_granted-requires-clause-known : goal.push_granted-requires-clause-known
 push_granted-requires-clause-known g c = rw c.self.view_is c.requires.known
 
-pub push_granted-requires-clause-plain : goal.push_granted-requires-clause-plain
-push_granted-requires-clause-plain g c = c.requires.plain
-
-pub push_granted-requires-clause-other : goal.push_granted-requires-clause-other
-push_granted-requires-clause-other g c = c.requires.other
-
 pub returns : goal.returns
 returns g c =
     subst (λ t. Adds t (service (past t) (called c.args.found.now)) c.push_granted.new.state)
-    c.self.view_is c.push_granted.ensures.adds
+    c.self.view_is c.push_granted.ensures.pushes.adds
 
 pub overflow_sub-self : goal.overflow_sub-self
 overflow_sub-self g c =
@@ -88,13 +76,13 @@ invariant_of-self g c =
     ready.step c.reserved_by-used.result
     (used-up old o read known c.requires.plain c.reserved_by-used.result
     c.reserved_by-used.ensures.value) in (
-      c.push_granted.ensures.queued,
+      c.push_granted.ensures.pushes.queued,
       c.push_granted.ensures.timed,
       touched-forced old c.push_granted.new.state c.self.inside.touched c.self.inside.entering
-          (service (past old) w) (service-forced (past old) w) c.push_granted.ensures.adds
+          (service (past old) w) (service-forced (past old) w) c.push_granted.ensures.pushes.adds
           (c.self.invariant.2.touches ∙ still-touched (past old) w c.requires.other)
           c.self.invariant.2.enters,
       reserved-forced old c.push_granted.new.state (service (past old) w)
-          c.push_granted.ensures.adds c.self.inside.need c.reserved_by-used.result
+          c.push_granted.ensures.pushes.adds c.self.inside.need c.reserved_by-used.result
           c.self.invariant.3 used,
     )

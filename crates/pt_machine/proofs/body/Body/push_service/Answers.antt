@@ -37,9 +37,6 @@ push_passed-requires-clause-other g c =
 pub push_passed-requires-clause-plain : goal.push_passed-requires-clause-plain
 push_passed-requires-clause-plain g c = sym c.mutex_of.ensures ∙ c.in-None.is
 
-pub push_gained-requires-clause-read : goal.push_gained-requires-clause-read
-push_gained-requires-clause-read g c = c.requires.read
-
 pub push_gained-requires-clause-ready : goal.push_gained-requires-clause-ready
 push_gained-requires-clause-ready g c =
     let s = c.args.self.now in
@@ -48,9 +45,6 @@ push_gained-requires-clause-ready g c =
     rw (← c.self.view_is) (ap option_copied (sym c.unwrap-open.ensures) ∙ c.open_of.ensures) in
     c.requires.ready (called o)
     (sym (c.requires.read.callers.look.calls c.args.c) ∙ ap (option_map called) (sym its))
-
-pub push_passed-requires-clause-read : goal.push_passed-requires-clause-read
-push_passed-requires-clause-read g c = c.requires.read
 
 pub push_passed-requires-clause-ready : goal.push_passed-requires-clause-ready
 push_passed-requires-clause-ready g c =

@@ -22,12 +22,8 @@ invariant_of-self g c =
     let new = c.push_yield.new.self in
     let m = c.args.m in
     let ready : IsReadyFor old (Yield m) = rw c.self.view_is c.requires.ready in
-    let adds = c.push_yield.ensures in
-    let queue = (g.Q.WaitList.seen c.self.inside.queues).queue in
-    let admitted = (g.Q.WaitList.seen c.self.inside.queues).admitted in
-    let made = (g.Q.WaitList.seen c.self.inside.queues).made in (
-      queued-adds old new (Yield m) queue admitted made adds
-          (queued-yield (past old) m queue admitted made c.self.invariant.0),
+    let adds = c.push_yield.ensures in (
+      queued-adds old new (Yield m) _ adds (queued-yield (past old) m _ c.self.invariant.0),
       timed-yield old new c.self.inside.timers c.self.inside.timers ready.read
           c.self.invariant.1 m adds,
       touched-forced old new (Some m) c.self.inside.entering (Yield m) refl adds refl

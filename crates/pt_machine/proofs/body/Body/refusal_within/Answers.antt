@@ -18,6 +18,3 @@ is_over-requires-clause-step g c =
 
 pub refusal-refused-requires : goal.refusal-refused-requires
 refusal-refused-requires g c = rw c.self.view_is c.requires.read
-
-pub is_over-requires-clause-read : goal.is_over-requires-clause-read
-is_over-requires-clause-read g c = c.requires.read

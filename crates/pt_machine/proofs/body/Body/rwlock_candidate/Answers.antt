@@ -86,12 +86,6 @@ returns-else-first g c =
     first.0 (sym first.1.2)
     (sym (ap (λ (v : Waiter). v.writer && not (nobody_holds c.args.lock.now)) first.1.1) ∙ may))
 
-pub reader_again-requires-clause-read : goal.reader_again-requires-clause-read
-reader_again-requires-clause-read g c = c.requires.read
-
-pub reader_again-requires-clause-stored : goal.reader_again-requires-clause-stored
-reader_again-requires-clause-stored g c = c.requires.stored
-
 pub reader_again-requires-clause-unwritten : goal.reader_again-requires-clause-unwritten
 reader_again-requires-clause-unwritten g c =
     empty c.args.lock.now.writer

@@ -28,7 +28,7 @@ invariant_of-self-2 g c =
     let begins : past new ≡ Begin (seal (past old)) =
     past-sealed old new c.in_default.ensures.ok in (
       subst (λ (h : History). IsQueued h view) (sym begins)
-          (queued-seal (past old) view.queue view.admitted view.made c.self.invariant.0),
+          (queued-seal (past old) _ c.self.invariant.0),
       subst (λ (h : History). AreTimed h timers) (sym begins)
           (timed-seal (past old) timers follows quiet c.self.invariant.1),
       subst (λ (h : History). IsTouched h None None) (sym begins)

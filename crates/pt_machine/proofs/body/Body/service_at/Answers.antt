@@ -54,15 +54,6 @@ returns-in-Rwlock g c =
     (call-service h c.requires.follows o other c.rwlock_candidate.result
     (c.rwlock_candidate.ensures ∙ ap client_at (sym same)))
 
-pub barrier_service-requires-clause-read : goal.barrier_service-requires-clause-read
-barrier_service-requires-clause-read g c = c.requires
-
-pub rwlock_candidate-requires-clause-read : goal.rwlock_candidate-requires-clause-read
-rwlock_candidate-requires-clause-read g c = c.requires
-
-pub mutex_candidate-requires-clause-read : goal.mutex_candidate-requires-clause-read
-mutex_candidate-requires-clause-read g c = c.requires
-
 pub mutex_candidate-requires-clause-stored : goal.mutex_candidate-requires-clause-stored
 mutex_candidate-requires-clause-stored g c =
     ap (object_value c.args.self.now.objects) (sym c.o.view_is)

@@ -20,7 +20,7 @@ invariant_of-self g c =
     let begins : past old ≡ Begin (seal h) = rw c.self.view_is c.requires.begins in
     let back : past c.unseal.new.state ≡ h = ap past_of c.unseal.ensures.stored in (
       subst (λ (x : History). IsQueued x view) (sym back)
-          (queued-unsealed h view.queue view.admitted view.made
+          (queued-unsealed h view
           (subst (λ (x : History). IsQueued x view) begins c.self.invariant.0)),
       subst (λ (x : History). AreTimed x timers) (sym back)
           (timed-unsealed h timers c.requires.follows c.requires.settled
@@ -37,12 +37,6 @@ unseal-requires-clause-read g c = rw c.self.view_is c.requires.read
 
 pub unseal-requires-clause-begins : goal.unseal-requires-clause-begins
 unseal-requires-clause-begins g c = rw c.self.view_is c.requires.begins
-
-pub unseal-requires-clause-follows : goal.unseal-requires-clause-follows
-unseal-requires-clause-follows g c = c.requires.follows
-
-pub unseal-requires-clause-told : goal.unseal-requires-clause-told
-unseal-requires-clause-told g c = c.requires.told
 
 pub returns : goal.returns
 returns g c = record {

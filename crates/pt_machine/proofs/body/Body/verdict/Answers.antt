@@ -10,9 +10,6 @@ use Rattle.pt_machine.proofs.body.Body.verdict.Goals as goal
 pub makes_verdict-requires : goal.makes_verdict-requires
 makes_verdict-requires g c = rw c.self.view_is c.requires.read
 
-pub ends_verdict-requires-clause-read : goal.ends_verdict-requires-clause-read
-ends_verdict-requires-clause-read g c = c.requires.read
-
 pub ends_verdict-requires-clause-found : goal.ends_verdict-requires-clause-found
 ends_verdict-requires-clause-found g c =
     c.requires.asks.object
@@ -20,12 +17,6 @@ ends_verdict-requires-clause-found g c =
 
 pub mutex_verdict-requires-clause-read : goal.mutex_verdict-requires-clause-read
 mutex_verdict-requires-clause-read g c = rw c.self.view_is c.requires.read
-
-pub plain_read_verdict-requires-clause-read : goal.plain_read_verdict-requires-clause-read
-plain_read_verdict-requires-clause-read g c = c.requires.read
-
-pub read_verdict-requires-clause-read : goal.read_verdict-requires-clause-read
-read_verdict-requires-clause-read g c = c.requires.read
 
 pub write_verdict-requires-clause-read : goal.write_verdict-requires-clause-read
 write_verdict-requires-clause-read g c = rw c.self.view_is c.requires.read
@@ -56,9 +47,6 @@ rwunlocks_verdict-requires-clause-found g c =
     rw c.self.view_is
     (c.requires.asks.object
     ∙ ap (λ d. object_meant (past c.args.self.now) (shown_operation d)) c.in-Rwunlocks.is)
-
-pub awaits_verdict-requires-clause-read : goal.awaits_verdict-requires-clause-read
-awaits_verdict-requires-clause-read g c = c.requires.read
 
 pub awaits_verdict-requires-clause-object : goal.awaits_verdict-requires-clause-object
 awaits_verdict-requires-clause-object g c =

@@ -1,53 +1,19 @@
-use Rattle.std.proofs.Common.{◌∙◌, sym, ap, refl}
-use Rattle.std.specs.Option.{option_map}
-use Rattle.pt_table.proofs.Listed.{slot_has_row, row_absent}
-use Rattle.pt_table.proofs.Removed.{view_absent, row_removed, numbered_removed, view_removed}
+use Rattle.std.proofs.Common.{◌∙◌, ℕ, ap, arith, length}
+use Rattle.pt_table.specs.Slots.{rows_of}
+use Rattle.pt_table.specs.declared.objects.ObjectRow.{ObjectRow}
 use Rattle.pt_table.proofs.Named.{named_removed}
-use Rattle.pt_table.proofs.Kept.{numbered-same, named-same}
+use Rattle.pt_table.proofs.Removed.{no_more}
 use Rattle.pt_table.proofs.objects.Objects.remove.Goals as goal
 
-pub take_out-requires : goal.take_out-requires
-take_out-requires g c = slot_has_row c.self.invariant.0 c.args.number
-
-pub returns-in_err-row-clause-value : goal.returns-in_err-row-clause-value
-returns-in_err-row-clause-value g c =
-    c.from_residual.ensures
-    ∙ sym (ap (option_map (λ row. row.value))
-    (row_absent c.self.invariant.0 c.args.self.now c.self.view_is c.args.number
-    c.in_err-row.ensures.absent))
-
-pub returns-in_err-row-clause-rows : goal.returns-in_err-row-clause-rows
-returns-in_err-row-clause-rows g c =
-    view_absent c.self.invariant.0 c.args.self.now c.self.view_is c.args.number
-    c.take_out.new.rows.slots c.take_out.new.numbers.entries c.in_err-row.ensures.absent
-    c.in_err-row.ensures.rows_kept c.in_err-row.ensures.numbers_kept
-
 pub invariant_of-self-2 : goal.invariant_of-self-2
-invariant_of-self-2 g c = (
-  numbered_removed c.self.invariant.0 c.args.self.now c.self.view_is c.args.number
-      c.take_out.new.rows.slots c.take_out.new.numbers.entries c.in_ok-row.row
-      c.in_ok-row.ensures.row c.in_ok-row.ensures.left,
-  named_removed c.self.invariant.0 c.self.invariant.1 c.args.number c.take_out.new.rows.slots
-      c.in_ok-row.row c.in_ok-row.ensures.row c.forget.new.self.slots.entries
-      c.forget.ensures,
-)
-
-pub returns-clause-value : goal.returns-clause-value
-returns-clause-value g c =
-    sym (ap (option_map (λ row. row.value))
-    (row_removed c.self.invariant.0 c.args.self.now c.self.view_is c.args.number
-    c.take_out.new.rows.slots c.take_out.new.numbers.entries c.in_ok-row.row
-    c.in_ok-row.ensures.row c.in_ok-row.ensures.left))
-
-pub returns-clause-rows : goal.returns-clause-rows
-returns-clause-rows g c =
-    view_removed c.self.invariant.0 c.args.self.now c.self.view_is c.args.number
-    c.take_out.new.rows.slots c.take_out.new.numbers.entries c.in_ok-row.row
-    c.in_ok-row.ensures.row c.in_ok-row.ensures.left
-
-pub invariant_of-self : goal.invariant_of-self
-invariant_of-self g c =
-    let kept = c.in_err-row.ensures in (
-      numbered-same _ _ _ _ _ _ kept.rows_kept kept.numbers_kept c.self.invariant.0,
-      named-same _ _ _ _ kept.rows_kept refl c.self.invariant.1,
+invariant_of-self-2 g c =
+    let took = c.in_ok-row.ensures in
+    let packed = c.pack_if_sparse.ensures in
+    let number : ObjectRow g.row.T.Denot → ℕ = λ row. row.number in
+    let less = no_more number (rows_of number c.self.inside.rows) c.args.number in (
+      packed.numbered,
+      omega (arith, ap length (packed.rows ∙ took.rows), less, c.self.invariant.1),
+      rw packed.slots
+          (named_removed c.self.invariant.0 c.self.invariant.2 c.take.new.self.rows.slots
+          c.in_ok-row.row took.slots c.forget.new.self.slots.entries c.forget.ensures),
     )
