@@ -1,7 +1,7 @@
 ghost use Rattle.std.specs.Prelude.{◌≡◌, ◌==◌, ◌≤◌, false};
 ghost use Rattle.pt_types.specs.ObjectTable.{init_verdict};
 
-use pt_types::{MOST_AT_BARRIER, ObjectKind, Outcome, Verdict};
+use pt_types::{MAX_BARRIER_COUNT, ObjectKind, Outcome, Verdict};
 use std::marker::Model;
 
 /// Returns the verdict of a `barrier-init` with this count, if its name is free and no object
@@ -11,7 +11,7 @@ use std::marker::Model;
 pub fn verdict_init(count: u64) -> Verdict
     ensures { result ≡ init_verdict (ObjectKind.Barrier count) false 0 }
 {
-    if count == 0 || count > MOST_AT_BARRIER as u64 {
+    if count == 0 || count > MAX_BARRIER_COUNT as u64 {
         return Verdict::Reply(Outcome::Einval);
     }
     Verdict::Reply(Outcome::Done)

@@ -8,7 +8,7 @@ use Rattle.pt_model.specs.declared.entry.Entry.TheVariants.{Join, Call, Death, M
 use Rattle.pt_model.specs.declared.entry.Entry.TheVariants.{Yield, Expire}
 use Rattle.pt_model.specs.declared.entry.Event.{Event}
 use Rattle.pt_model.specs.declared.entry.Event.TheVariants as event
-use Rattle.pt_model.specs.Histories.{History, Begin, ◌▷◌, onto, is_forced}
+use Rattle.pt_model.specs.Histories.{History, Begin, ◌▷◌, append_entries, is_forced}
 use Rattle.pt_model.specs.Legal.{event_of, events_of}
 use Rattle.pt_model.specs.Room.{need, entry_for}
 use Rattle.pt_model.specs.Seals.{seal}
@@ -19,7 +19,7 @@ use Rattle.pt_model.specs.Verdicts.{verdict}
 use Rattle.pt_model.proofs.Agreeing.{seal_agrees}
 use Rattle.pt_model.proofs.Changes.{left_by}
 use Rattle.pt_model.proofs.Effects.{Effect, Idle, Creates, Removes, Relocks, Frees, Mends, Returns, Wakes, Waits, effect}
-use Rattle.pt_model.proofs.GoesAlike.{agrees_on}
+use Rattle.pt_model.proofs.ContinuesAlike.{agrees_on}
 use Rattle.pt_model.proofs.Histories.{follows-part}
 use Rattle.pt_model.proofs.Induction.{start-seal}
 use Rattle.pt_model.proofs.Needs.{need-call, need-join, need-moment}
@@ -82,14 +82,15 @@ no_event (Yield m) es n = (refl, n)
 no_event (Expire j) es n = (refl, n)
 
 -- forced entries take what was reserved for them
-pub need-onto : (h : History) (fs : List Entry) → Follows (onto h fs) → events_of fs ≡ []
-    → length fs + need (onto h fs) ≤ need h
-need-onto h [] f n = omega arith
-need-onto h (e ∷ fs) f n =
+pub need-append_entries : (h : History) (fs : List Entry) → Follows (append_entries h fs)
+    → events_of fs ≡ []
+    → length fs + need (append_entries h fs) ≤ need h
+need-append_entries h [] f n = omega arith
+need-append_entries h (e ∷ fs) f n =
     let parts = no_event e fs n in
     let before = follows-part (h ▷ e) fs f in
     let keeps : KeepsRoom h e = room-step h e before.0 before.1 (forced-by e parts.0) in
-    omega (arith, need-onto (h ▷ e) fs f parts.1, keeps.0, keeps.1)
+    omega (arith, need-append_entries (h ▷ e) fs f parts.1, keeps.0, keeps.1)
 
 -- a seal keeps what is reserved
 pub need-sealed : (h : History) → Follows h → need (Begin (seal h)) ≡ need h

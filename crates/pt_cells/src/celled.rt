@@ -5,9 +5,9 @@ ghost use Rattle.std.specs.Prelude.{true};
 ghost use Rattle.std.specs.Prelude.{IfErr, IfOk, IfSome, IsOk, OnErr, OnOk, if◌then◌else◌};
 ghost use Rattle.pt_model.specs.declared.entry.Event.TheVariants as event_is;
 ghost use Rattle.pt_model.specs.Clients.{is_alive};
-ghost use Rattle.pt_model.specs.Room.{need as need_in};
-ghost use Rattle.pt_legal.specs.Cores.{IsEmpty, past, shown};
-ghost use Rattle.pt_legal.specs.Applying.{IsApplied, IsRefusal, is_death as is_death_of};
+ghost use Rattle.pt_model.specs.Room.{need};
+ghost use Rattle.pt_legal.specs.Cores.{IsEmpty, history_of, core_state};
+ghost use Rattle.pt_legal.specs.Applying.{IsApplied, IsRefusal, is_death};
 ghost use Rattle.pt_legal.specs.Sealing.{IsSealed, seal_refusal};
 ghost use Rattle.pt_cells.specs.Cells.{AreFirst, AreCells, Extends, IsCelled, cells_after};
 ghost use Rattle.pt_cells.specs.Cells.{seen_at};
@@ -22,11 +22,11 @@ use std::marker::Model;
 
 // The number of entries for which an event may need cells beyond those that are reserved: its own
 // entry, and three that are reserved while its call waits.
-const MOST_MORE: u64 = 4;
+const MAX_MORE: u64 = 4;
 
 // Returns whether an event is the Death of a client.
 fn is_death(event: &Event) -> bool
-    ensures { result ≡ is_death_of event.now }
+    ensures { result ≡ is_death event.now }
 {
     matches!(event, Event::Death(_))
 }
@@ -34,16 +34,16 @@ fn is_death(event: &Event) -> bool
 // Sets a cell for each entry that has none yet. This allocates nothing.
 fn fill<C: LegalHistory, A: Allocator + Copy>(core: &C, slots: &mut Slots<A>)
     requires first { AreFirst (C.seen core.now).entries slots.old.cells }
-    requires few { length slots.old.cells ≤ length (C.seen core.now).entries }
+    requires within { length slots.old.cells ≤ length (C.seen core.now).entries }
     requires room { length (C.seen core.now).entries ≤ length slots.old.cells + slots.old.room }
     ensures cells { AreCells (C.seen core.now).entries slots.new.cells }
-    ensures kept { Extends slots.old.cells slots.new.cells }
+    ensures extends { Extends slots.old.cells slots.new.cells }
     ensures room { slots.new.room + length slots.new.cells
         ≡ slots.old.room + length slots.old.cells }
 {
     let first = core.first();
-    let held = core.len() - first;
-    for index in slots.len()..held {
+    let entry_count = core.len() - first;
+    for index in slots.len()..entry_count {
         slots.push(core.entry(first + index).unwrap());
     }
 }
@@ -54,19 +54,19 @@ fn make_room<C: LegalHistory, A: Allocator + Copy>(
     slots: &mut Slots<A>,
     event: &Event,
 ) -> Result<(), Refusal>
-    requires { need_in (past (shown (C.seen core.now))) ≤ slots.old.room }
+    requires { need (history_of (core_state (C.seen core.now))) ≤ slots.old.room }
     ensures cells { slots.new.cells ≡ slots.old.cells }
     ensures room { slots.old.room ≤ slots.new.room }
-    ensures ok { OnOk result (need_in (past (shown (C.seen core.now)))
-        + (if is_death_of event.now then 0 else 4) ≤ slots.new.room) }
+    ensures ok { OnOk result (need (history_of (core_state (C.seen core.now)))
+        + (if is_death event.now then 0 else 4) ≤ slots.new.room) }
     ensures err { IfErr result (λ refusal.
-        IsRefusal (shown (C.seen core.now)) event.now refusal) }
-    ensures death { is_death_of event.now ≡ true → IsOk result }
+        IsRefusal (core_state (C.seen core.now)) event.now refusal) }
+    ensures death { is_death event.now ≡ true → IsOk result }
 {
     if is_death(event) {
         return Ok(());
     }
-    if slots.reserve_for(core.need() + MOST_MORE).is_err() {
+    if slots.reserve_for(core.need() + MAX_MORE).is_err() {
         return Err(core.would_refuse(event).unwrap_or(Refusal::Enomem));
     }
     Ok(())
@@ -78,18 +78,18 @@ fn apply_celled<C: LegalHistory, A: Allocator + Copy>(
     slots: &mut Slots<A>,
     event: &Event,
 ) -> Result<Applied, Refusal>
-    requires { IsCelled (shown (C.seen core.old)) slots.old.cells slots.old.room }
-    ensures celled { IsCelled (shown (C.seen core.new)) slots.new.cells slots.new.room }
-    ensures ok { IfOk result (λ applied. IsApplied (shown (C.seen core.old)) event.now
-        (shown (C.seen core.new)) applied) }
+    requires { IsCelled (core_state (C.seen core.old)) slots.old.cells slots.old.room }
+    ensures celled { IsCelled (core_state (C.seen core.new)) slots.new.cells slots.new.room }
+    ensures ok { IfOk result (λ applied. IsApplied (core_state (C.seen core.old)) event.now
+        (core_state (C.seen core.new)) applied) }
     ensures cells { IfOk result (λ applied.
         Extends (cells_after applied.sealed slots.old.cells) slots.new.cells) }
     ensures err { IfErr result (λ refusal.
-        IsRefusal (shown (C.seen core.old)) event.now refusal) }
+        IsRefusal (core_state (C.seen core.old)) event.now refusal) }
     ensures unchanged { OnErr result ((C.seen core.new ≡ C.seen core.old)
         × (slots.new.cells ≡ slots.old.cells)) }
     ensures death { (c : ℕ) → event.now ≡ event_is.Death c
-        → is_alive (past (shown (C.seen core.old))) c ≡ true → IsOk result }
+        → is_alive (history_of (core_state (C.seen core.old))) c ≡ true → IsOk result }
     ensures unsealed { (c : ℕ) → event.now ≡ event_is.Death c
         → IfOk result (λ applied. applied.sealed ≡ None) }
 {
@@ -112,12 +112,12 @@ fn seal_celled<C: LegalHistory, A: Allocator + Copy>(
     core: &mut C,
     slots: &mut Slots<A>,
 ) -> Result<u64, Refusal>
-    requires { IsCelled (shown (C.seen core.old)) slots.old.cells slots.old.room }
-    ensures celled { IsCelled (shown (C.seen core.new)) slots.new.cells slots.new.room }
+    requires { IsCelled (core_state (C.seen core.old)) slots.old.cells slots.old.room }
+    ensures celled { IsCelled (core_state (C.seen core.new)) slots.new.cells slots.new.room }
     ensures ok { IfOk result (λ at.
-        IsSealed (shown (C.seen core.old)) (shown (C.seen core.new)) at) }
+        IsSealed (core_state (C.seen core.old)) (core_state (C.seen core.new)) at) }
     ensures cells { OnOk result (slots.new.cells ≡ []) }
-    ensures err { IfErr result (λ refusal. refusal ≡ seal_refusal (shown (C.seen core.old))) }
+    ensures err { IfErr result (λ refusal. refusal ≡ seal_refusal (core_state (C.seen core.old))) }
     ensures unchanged { OnErr result ((C.seen core.new ≡ C.seen core.old)
         × (slots.new.cells ≡ slots.old.cells)) }
 {
@@ -141,7 +141,7 @@ pub struct Celled<C: LegalHistory, A: Allocator + Copy = Global> {
 }
 
 impl<C: LegalHistory, A: Allocator + Copy> Model for Celled<C, A> {
-    ghost use Rattle.pt_legal.specs.Cores.{IsEmpty, shown};
+    ghost use Rattle.pt_legal.specs.Cores.{IsEmpty, core_state};
     ghost use Rattle.pt_cells.specs.Cells.{AreSlots, Celled as View, cells_in};
 
     ghost Value = { View };
@@ -151,7 +151,7 @@ impl<C: LegalHistory, A: Allocator + Copy> Model for Celled<C, A> {
       cells = cells_in (C.seen w.core).entries w.slots;
     } };
 
-    ghost invariant = { λ w. AreSlots (shown (C.seen w.core)) w.slots };
+    ghost invariant = { λ w. AreSlots (core_state (C.seen w.core)) w.slots };
 }
 
 // Not derived, so that code that drops this proves nothing of its parts.
@@ -168,16 +168,16 @@ impl<C: LegalHistory, A: Allocator + Copy> Celled<C, A> {
     ghost use Rattle.std.specs.Prelude.{true};
     ghost use Rattle.pt_model.specs.declared.entry.Event.TheVariants as event_is;
     ghost use Rattle.pt_model.specs.Clients.{is_alive};
-    ghost use Rattle.pt_model.specs.Room.{need as need_in};
-    ghost use Rattle.pt_legal.specs.Cores.{IsEmpty, past, shown};
-    ghost use Rattle.pt_legal.specs.Applying.{IsApplied, IsRefusal, is_death as is_death_of};
+    ghost use Rattle.pt_model.specs.Room.{need};
+    ghost use Rattle.pt_legal.specs.Cores.{IsEmpty, history_of, core_state};
+    ghost use Rattle.pt_legal.specs.Applying.{IsApplied, IsRefusal, is_death};
     ghost use Rattle.pt_legal.specs.Sealing.{IsSealed, seal_refusal};
     ghost use Rattle.pt_cells.specs.Cells.{AreCells, Extends, cells_after, seen_at};
 
     /// Puts the entries of an empty core into cells, which are made in `heap`. Without one, no
     /// cells are made, and nothing is seen.
     pub fn new(core: C, alloc: A, heap: Option<Global>) -> Celled<C, A>
-        requires { IsEmpty (shown (C.seen core)) }
+        requires { IsEmpty (core_state (C.seen core)) }
         ensures { (result.core ≡ C.seen core) × (result.cells ≡ []) }
     {
         Celled {
@@ -192,17 +192,17 @@ impl<C: LegalHistory, A: Allocator + Copy> Celled<C, A> {
     /// Applies one event, and all that must follow it, as the core does. Each new entry gets a
     /// cell. The entries that stay keep theirs.  [profile]
     pub fn apply(&mut self, event: &Event) -> Result<Applied, Refusal>
-        ensures ok { IfOk result (λ applied. IsApplied (shown self.old.core) event.now
-            (shown self.new.core) applied) }
+        ensures ok { IfOk result (λ applied. IsApplied (core_state self.old.core) event.now
+            (core_state self.new.core) applied) }
         ensures cells { IfOk result (λ applied.
             Extends (cells_after applied.sealed self.old.cells) self.new.cells) }
         ensures err { IfErr result (λ refusal.
-            IsRefusal (shown self.old.core) event.now refusal) }
+            IsRefusal (core_state self.old.core) event.now refusal) }
         ensures unchanged { OnErr result (self.new ≡ self.old) }
 
         // The Death of a living client is never refused, and no Death seals.
         ensures death { (c : ℕ) → event.now ≡ event_is.Death c
-            → is_alive (past (shown self.old.core)) c ≡ true → IsOk result }
+            → is_alive (history_of (core_state self.old.core)) c ≡ true → IsOk result }
         ensures unsealed { (c : ℕ) → event.now ≡ event_is.Death c
             → IfOk result (λ applied. applied.sealed ≡ None) }
     {
@@ -216,9 +216,10 @@ impl<C: LegalHistory, A: Allocator + Copy> Celled<C, A> {
     /// Seals the history, as the core does, and lets go of the cells of its entries. Whoever saw an
     /// entry still has it.  [profile]
     pub fn seal(&mut self) -> Result<u64, Refusal>
-        ensures ok { IfOk result (λ at. IsSealed (shown self.old.core) (shown self.new.core) at) }
+        ensures ok { IfOk result (λ at. IsSealed (core_state self.old.core)
+            (core_state self.new.core) at) }
         ensures cells { OnOk result (self.new.cells ≡ []) }
-        ensures err { IfErr result (λ refusal. refusal ≡ seal_refusal (shown self.old.core)) }
+        ensures err { IfErr result (λ refusal. refusal ≡ seal_refusal (core_state self.old.core)) }
         ensures unchanged { OnErr result (self.new ≡ self.old) }
     {
         let _ = self.core.len();
@@ -238,9 +239,9 @@ impl<C: LegalHistory, A: Allocator + Copy> Celled<C, A> {
     /// Returns the entry at a place with its cell. Returns `None` if the history has no entry
     /// there, if the entry's cell refused it, and if one more owner of the cell is refused.
     pub fn seen(&self, place: u64) -> Option<Seen>
-        ensures there { IfSome result (λ s. seen_at self.now place ≡ Some s) }
+        ensures exists { IfSome result (λ s. seen_at self.now place ≡ Some s) }
         ensures entry { IfSome result (λ s. slice_get self.now.core.entries
-            (place - (shown self.now.core).start.at) ≡ Some s.cell.entry) }
+            (place - (core_state self.now.core).start.at) ≡ Some s.cell.entry) }
     {
         let first = self.core.first();
         if place < first {

@@ -151,7 +151,7 @@ impl<A: Allocator + Copy> Slots<A> {
         ensures { IfSome result (λ s. (s.place ≡ place)
             × (slice_get self.now.cells index ≡ Some (Some s.cell))) }
     {
-        let cell = self.cells.get(index)?.as_ref()?.again()?;
+        let cell = self.cells.get(index)?.as_ref()?.clone_cell()?;
         Some(Seen { place, cell })
     }
 

@@ -8,18 +8,18 @@ use Rattle.std.specs.List.{AllByRecursion as Each}
 use Rattle.std.specs.Option.{option_map, option_to_list}
 use Rattle.std.specs.Map.{lookup}
 use Rattle.std.proofs.lemmas.List.{get_or-replicate}
-use Rattle.pt_types.specs.Limits.{most_priority}
+use Rattle.pt_types.specs.Limits.{max_priority}
 use Rattle.pt_waitq.specs.declared.waiter.Waiter.{Waiter}
 use Rattle.pt_chains.specs.declared.nodes.Node.{Node}
 use Rattle.pt_chains.specs.declared.sides.Queue.{Queue}
 use Rattle.pt_waitq.specs.Queues.{In}
 use Rattle.pt_waitq.specs.Waits.{is_listed, has_waiter}
-use Rattle.pt_chains.specs.Chains.{numbers, side_of, home_of, AreChains, HasNone}
-use Rattle.pt_chains.specs.Boxes.{no_queue, busy, AreBoxes}
-use Rattle.pt_chains.proofs.HomeLemmas.{length-more}
+use Rattle.pt_chains.specs.Chains.{numbers, side_of, node_index_of, AreChains, HasNone}
+use Rattle.pt_chains.specs.Boxes.{no_queue, busy_queue_count, AreBoxes}
+use Rattle.pt_chains.proofs.NodeIndexLemmas.{length-more}
 use Rattle.pt_chains.proofs.InsertLemmas.{waiters-few}
 use Rattle.pt_chains.proofs.StepLemmas.{some-if}
-use Rattle.pt_chains.proofs.BusyLemmas.{busy-few, busy-more, busy-fewer, busy-made, empty-listed}
+use Rattle.pt_chains.proofs.BusyLemmas.{busy_queue_count-few, busy_queue_count-more, busy_queue_count-fewer, busy_queue_count-made, empty-listed}
 use Rattle.pt_chains.proofs.BusyLemmas.{zero-listed}
 
 -- a queue with no box has no waiter
@@ -32,20 +32,20 @@ none-without =
       tails = λ k p lt. tails k p lt;
     }
   where
-    counts : (k : Bool) (p : ℕ) → p < most_priority
+    counts : (k : Bool) (p : ℕ) → p < max_priority
         → slice_index (side_of k no_queue).counts p ≡ 0
-    counts true p lt = get_or-replicate most_priority p 0 0 lt
-    counts false p lt = get_or-replicate most_priority p 0 0 lt
+    counts true p lt = get_or-replicate max_priority p 0 0 lt
+    counts false p lt = get_or-replicate max_priority p 0 0 lt
 
-    heads : (k : Bool) (p : ℕ) → p < most_priority
+    heads : (k : Bool) (p : ℕ) → p < max_priority
         → slice_index_or (side_of k no_queue).heads p None ≡ None
-    heads true p lt = get_or-replicate most_priority p None None lt
-    heads false p lt = get_or-replicate most_priority p None None lt
+    heads true p lt = get_or-replicate max_priority p None None lt
+    heads false p lt = get_or-replicate max_priority p None None lt
 
-    tails : (k : Bool) (p : ℕ) → p < most_priority
+    tails : (k : Bool) (p : ℕ) → p < max_priority
         → slice_index_or (side_of k no_queue).tails p None ≡ None
-    tails true p lt = get_or-replicate most_priority p None None lt
-    tails false p lt = get_or-replicate most_priority p None None lt
+    tails true p lt = get_or-replicate max_priority p None None lt
+    tails false p lt = get_or-replicate max_priority p None None lt
 
 pub if-boxed : {X : Type 0} (P : Queue → Type 0) (f : X → Queue) (o : Option X)
     → IfSome (option_map f o) P → IfSome o (λ x. P (f x))
@@ -71,17 +71,17 @@ module _ (homes : List (ℕ × ℕ)) (nodes : List (Option Node)) (queues : List
     (es : List (ℕ × Waiter)) (spares room boxes : ℕ) (a : AreChains homes nodes queues es)
     (b : AreBoxes (length homes) (length (numbers queues)) es spares room boxes) where
   -- for a client that waits nowhere, there is a spare box if its queue is empty
-  pub spare-there : (c n o : ℕ) → home_of homes c ≡ Some n → has_waiter c es ≡ false
+  pub spare-there : (c n o : ℕ) → node_index_of homes c ≡ Some n → has_waiter c es ≡ false
       → is_listed o (numbers queues) ≡ true
       → IfSome (lookup (nat_eq o) queues) (λ q. q.len ≡ 0 → 0 < spares)
-  spare-there c n o at none made =
+  spare-there c n o at none is_queue =
       some-if (λ (q : Queue). q.len ≡ 0 → 0 < spares) (lookup (nat_eq o) queues) (λ q h z.
-      let few = waiters-few homes nodes queues es c n a at none in
+      let bounded = waiters-few homes nodes queues es c n a at none in
       let free = zero-listed o es (sym (a.len o q h) ∙ z) in
-      let made = busy-made o (numbers queues) es made a.stand.made free in
+      let is_queue = busy_queue_count-made o (numbers queues) es is_queue a.queued.is_queue free in
       let count = b.count in
       let enough = b.enough in
-      omega (arith, few, made, count, enough, busy-few es))
+      omega (arith, bounded, is_queue, count, enough, busy_queue_count-few es))
 
   -- a waiter is put in
   pub boxes-put : (o : ℕ) (w : Waiter) (q : Queue) (objects spares' room' : ℕ)
@@ -91,7 +91,7 @@ module _ (homes : List (ℕ × ℕ)) (nodes : List (Option Node)) (queues : List
       → AreBoxes (length homes) objects (es ++ (o, w) ∷ []) spares' room' boxes
   boxes-put o w q objects spares' room' still at fewer same =
       record {
-        count = go (is_listed o (numbers es)) (busy-more es (o, w))
+        count = go (is_listed o (numbers es)) (busy_queue_count-more es (o, w))
             (ap (λ t. spares' + cond t 1 0) (sym empty) ∙ fewer);
         enough = let enough = b.enough in omega (arith, enough, still);
         fit = let fit = b.fit in omega (arith, fit, same);
@@ -103,8 +103,9 @@ module _ (homes : List (ℕ × ℕ)) (nodes : List (Option Node)) (queues : List
       more : List (ℕ × Waiter)
       more = es ++ (o, w) ∷ []
 
-      go : (t : Bool) → busy more ≡ cond t (busy es) (busy es + 1)
-          → spares' + cond (not t) 1 0 ≡ spares → boxes ≡ busy more + spares'
+      go : (t : Bool) → busy_queue_count more
+          ≡ cond t (busy_queue_count es) (busy_queue_count es + 1)
+          → spares' + cond (not t) 1 0 ≡ spares → boxes ≡ busy_queue_count more + spares'
       go true e f = let count = b.count in omega (arith, e, f, count)
       go false e f = let count = b.count in omega (arith, e, f, count)
 
@@ -115,13 +116,15 @@ module _ (homes : List (ℕ × ℕ)) (nodes : List (Option Node)) (queues : List
     abbrev left : List (ℕ × Waiter)
     left = filter (λ e. not (e.1.client == w.client)) es
 
-    was : busy es ≡ cond (is_listed o (numbers left)) (busy left) (busy left + 1)
-    was = busy-fewer w.client (o, w) es a.stand.once in_es refl
+    was : busy_queue_count es ≡ cond (is_listed o (numbers left)) (busy_queue_count left)
+        (busy_queue_count left + 1)
+    was = busy_queue_count-fewer w.client (o, w) es a.queued.once in_es refl
 
     pub room-back : emptied ≡ true → spares < room
     room-back e = go (is_listed o (numbers left)) was (sym e ∙ last)
       where
-        go : (t : Bool) → busy es ≡ cond t (busy left) (busy left + 1) → true ≡ not t
+        go : (t : Bool) → busy_queue_count es
+            ≡ cond t (busy_queue_count left) (busy_queue_count left + 1) → true ≡ not t
             → spares < room
         go true f g = absurd (cc g)
         go false f g =
@@ -140,8 +143,9 @@ module _ (homes : List (ℕ × ℕ)) (nodes : List (Option Node)) (queues : List
           fit = let fit = b.fit in omega (arith, fit, same);
         }
       where
-        go : (t : Bool) → busy es ≡ cond t (busy left) (busy left + 1)
-            → spares' ≡ spares + cond (not t) 1 0 → boxes ≡ busy left + spares'
+        go : (t : Bool) → busy_queue_count es
+            ≡ cond t (busy_queue_count left) (busy_queue_count left + 1)
+            → spares' ≡ spares + cond (not t) 1 0 → boxes ≡ busy_queue_count left + spares'
         go true f g = let count = b.count in omega (arith, f, g, count)
         go false f g = let count = b.count in omega (arith, f, g, count)
 

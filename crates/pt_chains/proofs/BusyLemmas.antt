@@ -6,21 +6,22 @@ use Rattle.std.specs.List.{AllByRecursion as Each}
 use Rattle.std.proofs.lemmas.Bool.Decides.{nat_tests}
 use Rattle.std.proofs.lemmas.Bool.{false≢true}
 use Rattle.pt_waitq.specs.declared.waiter.Waiter.{Waiter}
-use Rattle.pt_waitq.specs.Queues.{In, stands_in}
+use Rattle.pt_waitq.specs.Queues.{In, is_queued_in}
 use Rattle.pt_waitq.specs.Waits.{is_listed, has_waiter, queue_of, IsOnce}
 use Rattle.pt_waitq.specs.ListLemmas.{any-in, filter-rest, Each-in}
-use Rattle.pt_waitq.specs.WaitingLemmas.{entry-stands}
+use Rattle.pt_waitq.specs.WaitingLemmas.{entry-queued}
 use Rattle.pt_chains.specs.Chains.{numbers, Unique}
-use Rattle.pt_chains.specs.Boxes.{busy}
+use Rattle.pt_chains.specs.Boxes.{busy_queue_count}
 use Rattle.pt_chains.proofs.ChainLemmas.{queue-none}
 use Rattle.pt_chains.proofs.InsertLemmas.{no-more}
 
 -- no more queues than waiters
-pub busy-few : (es : List (ℕ × Waiter)) → busy es ≤ length es
-busy-few [] = omega arith
-busy-few (e ∷ es) = go (is_listed e.0 (numbers es)) (busy-few es)
+pub busy_queue_count-few : (es : List (ℕ × Waiter)) → busy_queue_count es ≤ length es
+busy_queue_count-few [] = omega arith
+busy_queue_count-few (e ∷ es) = go (is_listed e.0 (numbers es)) (busy_queue_count-few es)
   where
-    go : (b : Bool) → busy es ≤ length es → cond b (busy es) (busy es + 1) ≤ suc (length es)
+    go : (b : Bool) → busy_queue_count es ≤ length es
+        → cond b (busy_queue_count es) (busy_queue_count es + 1) ≤ suc (length es)
     go true ih = omega (arith, ih)
     go false ih = omega (arith, ih)
 
@@ -69,13 +70,15 @@ same-listed m n es e =
     ap (λ k. is_listed k (numbers es)) same
 
 -- one more waiter
-pub busy-more : (es : List (ℕ × Waiter)) (e : ℕ × Waiter)
-    → busy (es ++ e ∷ []) ≡ cond (is_listed e.0 (numbers es)) (busy es) (busy es + 1)
-busy-more [] e = refl
-busy-more (x ∷ es) e =
-    step (x.0 == e.0) (is_listed x.0 (numbers es)) (is_listed e.0 (numbers es)) _ _ (busy es)
+pub busy_queue_count-more : (es : List (ℕ × Waiter)) (e : ℕ × Waiter)
+    → busy_queue_count (es ++ e ∷ [])
+    ≡ cond (is_listed e.0 (numbers es)) (busy_queue_count es) (busy_queue_count es + 1)
+busy_queue_count-more [] e = refl
+busy_queue_count-more (x ∷ es) e =
+    step (x.0 == e.0) (is_listed x.0 (numbers es)) (is_listed e.0 (numbers es)) _ _
+    (busy_queue_count es)
     (listed-more x.0 es e ∙ ap (λ b. is_listed x.0 (numbers es) || b) (eq_swap e.0 x.0))
-    (same-listed x.0 e.0 es) (busy-more es e)
+    (same-listed x.0 e.0 es) (busy_queue_count-more es e)
 
 listed-in : (e : ℕ × Waiter) (es : List (ℕ × Waiter)) → In e es
     → is_listed e.0 (numbers es) ≡ true
@@ -94,9 +97,9 @@ module _ (c : ℕ) where
   abbrev left : List (ℕ × Waiter) → List (ℕ × Waiter)
   left es = filter (λ e. not (e.1.client == c)) es
 
-  apart : (x e : ℕ × Waiter) (es : List (ℕ × Waiter)) → has_waiter x.1.client es ≡ false
+  disjoint : (x e : ℕ × Waiter) (es : List (ℕ × Waiter)) → has_waiter x.1.client es ≡ false
       → In e es → e.1.client ≡ c → (x.1.client == c) ≡ false
-  apart x e es none i is = go (x.1.client == c) refl
+  disjoint x e es none i is = go (x.1.client == c) refl
     where
       go : (b : Bool) → (x.1.client == c) ≡ b → b ≡ false
       go false t = refl
@@ -128,25 +131,29 @@ module _ (c : ℕ) where
       ap (λ xs. is_listed n (numbers xs)) (left-own x e es once.0 h is)
       ∙ sym (ap (λ b. b || is_listed n (numbers es)) far)
   listed-left n e (x ∷ es) once (inr i) is off =
-      ap (λ xs. is_listed n (numbers xs)) (left-other x es (apart x e es once.0 i is))
+      ap (λ xs. is_listed n (numbers xs)) (left-other x es (disjoint x e es once.0 i is))
       ∙ ap (λ b. (x.0 == n) || b) (listed-left n e es once.1 i is off)
 
   -- the client's one waiter is taken out
-  pub busy-fewer : (e : ℕ × Waiter) (es : List (ℕ × Waiter)) → IsOnce es → In e es
+  pub busy_queue_count-fewer : (e : ℕ × Waiter) (es : List (ℕ × Waiter)) → IsOnce es → In e es
       → e.1.client ≡ c
-      → busy es ≡ cond (is_listed e.0 (numbers (left es))) (busy (left es)) (busy (left es) + 1)
-  busy-fewer e [] once i is = absurd i
-  busy-fewer e (x ∷ es) once (inl h) is =
+      → busy_queue_count es ≡ cond (is_listed e.0 (numbers (left es))) (busy_queue_count (left es))
+      (busy_queue_count (left es) + 1)
+  busy_queue_count-fewer e [] once i is = absurd i
+  busy_queue_count-fewer e (x ∷ es) once (inl h) is =
       let number = ap (λ (y : ℕ × Waiter). y.0) h in
-      sym (ap (λ xs. cond (is_listed e.0 (numbers xs)) (busy xs) (busy xs + 1))
+      sym (ap (λ xs. cond (is_listed e.0 (numbers xs)) (busy_queue_count xs)
+      (busy_queue_count xs + 1))
       (left-own x e es once.0 h is)
-      ∙ ap (λ n. cond (is_listed n (numbers es)) (busy es) (busy es + 1)) number)
-  busy-fewer e (x ∷ es) once (inr i) is =
+      ∙ ap (λ n. cond (is_listed n (numbers es)) (busy_queue_count es)
+      (busy_queue_count es + 1)) number)
+  busy_queue_count-fewer e (x ∷ es) once (inr i) is =
       step (x.0 == e.0) (is_listed x.0 (numbers (left es))) (is_listed e.0 (numbers (left es))) _ _
-      (busy (left es)) (was (x.0 == e.0) refl) (same-listed x.0 e.0 (left es))
-      (busy-fewer e es once.1 i is)
-      ∙ sym (ap (λ xs. cond (is_listed e.0 (numbers xs)) (busy xs) (busy xs + 1))
-      (left-other x es (apart x e es once.0 i is)))
+      (busy_queue_count (left es)) (was (x.0 == e.0) refl) (same-listed x.0 e.0 (left es))
+      (busy_queue_count-fewer e es once.1 i is)
+      ∙ sym (ap (λ xs. cond (is_listed e.0 (numbers xs)) (busy_queue_count xs)
+      (busy_queue_count xs + 1))
+      (left-other x es (disjoint x e es once.0 i is)))
     where
       was : (t : Bool) → (x.0 == e.0) ≡ t
           → is_listed x.0 (numbers es) ≡ (is_listed x.0 (numbers (left es)) || t)
@@ -188,7 +195,7 @@ listed-none o (x ∷ es) h = go (x.0 == o) refl h (listed-none o es)
     go true t k ih = absurd (false≢true (sym k))
     go false t k ih = (t, ih k)
 
-not-empty : (c : ℕ) (ws : List Waiter) → stands_in c ws ≡ true → (length ws == 0) ≡ false
+not-empty : (c : ℕ) (ws : List Waiter) → is_queued_in c ws ≡ true → (length ws == 0) ≡ false
 not-empty c [] h = absurd (false≢true h)
 not-empty c (w ∷ ws) h = go (length (w ∷ ws) == 0) refl
   where
@@ -204,7 +211,7 @@ empty-listed o es = go (is_listed o (numbers es)) refl
     go true h =
         let e = listed-entry o es h in
         ap (λ q. length (queue_of q es) == 0) (sym e.2)
-        ∙ not-empty e.0.1.client (queue_of e.0.0 es) (entry-stands e.0 es e.1)
+        ∙ not-empty e.0.1.client (queue_of e.0.0 es) (entry-queued e.0 es e.1)
     go false h = ap (λ ws. length ws == 0) (queue-none o es (listed-none o es h))
 
 zero-is : (n : ℕ) (b : Bool) → (n == 0) ≡ not b → n ≡ 0 → b ≡ false
@@ -228,12 +235,13 @@ abbrev distinct : List (ℕ × Waiter) → List ℕ
 distinct [] = []
 distinct (e ∷ es) = cond (is_listed e.0 (numbers es)) (distinct es) (e.0 ∷ distinct es)
 
-length-distinct : (es : List (ℕ × Waiter)) → length (distinct es) ≡ busy es
+length-distinct : (es : List (ℕ × Waiter)) → length (distinct es) ≡ busy_queue_count es
 length-distinct [] = refl
 length-distinct (e ∷ es) = go (is_listed e.0 (numbers es)) (length-distinct es)
   where
-    go : (b : Bool) → length (distinct es) ≡ busy es
-        → length (cond b (distinct es) (e.0 ∷ distinct es)) ≡ cond b (busy es) (busy es + 1)
+    go : (b : Bool) → length (distinct es) ≡ busy_queue_count es
+        → length (cond b (distinct es) (e.0 ∷ distinct es))
+        ≡ cond b (busy_queue_count es) (busy_queue_count es + 1)
     go true ih = ih
     go false ih = omega (arith, ih)
 
@@ -260,10 +268,10 @@ unique-distinct (e ∷ es) = go (is_listed e.0 (numbers es)) refl (unique-distin
     go false p ih = (listed-distinct e.0 es ∙ p, ih)
 
 -- with one more queue that has no waiter yet, they are no more than all queues
-pub busy-made : (o : ℕ) (os : List ℕ) (es : List (ℕ × Waiter)) → is_listed o os ≡ true
+pub busy_queue_count-made : (o : ℕ) (os : List ℕ) (es : List (ℕ × Waiter)) → is_listed o os ≡ true
     → Each (λ e. is_listed e.0 os ≡ true) es → is_listed o (numbers es) ≡ false
-    → busy es + 1 ≤ length os
-busy-made o os es made all none =
+    → busy_queue_count es + 1 ≤ length os
+busy_queue_count-made o os es is_queue all none =
     let most = no-more (o ∷ distinct es) os (listed-distinct o es ∙ none, unique-distinct es)
     (λ m i. go m (o == m) refl i) in
     omega (arith, most, length-distinct es)
@@ -272,7 +280,7 @@ busy-made o os es made all none =
         → is_listed m os ≡ true
     go m true t i =
         let same : o ≡ m = grind (arith, nat_tests) in
-        ap (λ k. is_listed k os) (sym same) ∙ made
+        ap (λ k. is_listed k os) (sym same) ∙ is_queue
     go m false t i =
         let e = listed-entry m es (sym (listed-distinct m es) ∙ i) in
         ap (λ k. is_listed k os) (sym e.2)

@@ -15,8 +15,8 @@ use Rattle.pt_waitq.specs.Queues.{In}
 use Rattle.pt_waitq.specs.Waits.{is_listed, has_waiter, queue_of}
 use Rattle.pt_waitq.specs.ListLemmas.{any-in, In-filter}
 use Rattle.pt_chains.specs.Chains.{numbers, first_entry, side_of, IsChain, in_chain, nodes_of}
-use Rattle.pt_chains.specs.Chains.{node_in, next_in, before_in, entry_in, home_of, index_of}
-use Rattle.pt_chains.specs.Chains.{entry_of, AreHomes, AreChains}
+use Rattle.pt_chains.specs.Chains.{node_in, next_in, before_in, entry_in, node_index_of, index_of}
+use Rattle.pt_chains.specs.Chains.{entry_of_client, AreNodeIndexes, AreChains}
 use Rattle.pt_chains.proofs.EndLemmas.{chain-kept}
 
 none_first : (es : List (ℕ × Waiter)) → None ≡ first_entry es → es ≡ []
@@ -136,15 +136,15 @@ module _ (homes : List (ℕ × ℕ)) (nodes : List (Option Node)) (queues : List
       go (Some q) e = a.len o q e
       go None e =
           let out = listed-lookup o queues ∙ ap is_some e in
-          sym (ap length (queue-none o es (unmade-none o (numbers queues) es a.stand.made out)))
+          sym (ap length (queue-none o es (unmade-none o (numbers queues) es a.queued.is_queue out)))
 
   -- a client that waits has a node
   pub home-there : (d : ℕ × Waiter) → In d es
-      → (n : ℕ) × (home_of homes d.1.client ≡ Some n)
-  home-there d i = go (home_of homes d.1.client) refl
+      → (n : ℕ) × (node_index_of homes d.1.client ≡ Some n)
+  home-there d i = go (node_index_of homes d.1.client) refl
     where
-      go : (o : Option ℕ) → home_of homes d.1.client ≡ o
-          → (n : ℕ) × (home_of homes d.1.client ≡ Some n)
+      go : (o : Option ℕ) → node_index_of homes d.1.client ≡ o
+          → (n : ℕ) × (node_index_of homes d.1.client ≡ Some n)
       go (Some n) e = (n, e)
       go None e =
           let test = λ (x : ℕ × Waiter). x.1.client == d.1.client in
@@ -154,7 +154,7 @@ module _ (homes : List (ℕ × ℕ)) (nodes : List (Option Node)) (queues : List
           absurd (false≢true (sym gone ∙ any-in test es d i own))
 
   pub index-there : (d : ℕ × Waiter) → In d es
-      → home_of homes d.1.client ≡ Some (index_of homes d.1.client)
+      → node_index_of homes d.1.client ≡ Some (index_of homes d.1.client)
   index-there d i =
       let r = home-there d i in r.1 ∙ sym (ap (λ o. Some (unwrap_or o 0)) r.1)
 
@@ -162,11 +162,11 @@ module _ (homes : List (ℕ × ℕ)) (nodes : List (Option Node)) (queues : List
   pub index-apart : (d e : ℕ × Waiter) → In d es → In e es
       → index_of homes d.1.client ≡ index_of homes e.1.client → d.1.client ≡ e.1.client
   index-apart d e i j h =
-      a.homed.apart d.1.client e.1.client (index_of homes d.1.client) (index-there d i)
+      a.homed.disjoint d.1.client e.1.client (index_of homes d.1.client) (index-there d i)
       (index-there e j ∙ ap (λ n. Some n) (sym h))
 
   -- the node of a client that does not wait is not that of a waiter
-  pub index-fresh : (c n : ℕ) → home_of homes c ≡ Some n → has_waiter c es ≡ false
+  pub index-fresh : (c n : ℕ) → node_index_of homes c ≡ Some n → has_waiter c es ≡ false
       → (d : ℕ × Waiter) → In d es → (n == index_of homes d.1.client) ≡ false
   index-fresh c n at none d i = go (n == index_of homes d.1.client) refl
     where
@@ -174,7 +174,7 @@ module _ (homes : List (ℕ × ℕ)) (nodes : List (Option Node)) (queues : List
       go false e = refl
       go true e =
           let same : n ≡ index_of homes d.1.client = grind (arith, nat_tests) in
-          let one = a.homed.apart c d.1.client n at
+          let one = a.homed.disjoint c d.1.client n at
           (index-there d i ∙ ap (λ m. Some m) (sym same)) in
           let test = λ (x : ℕ × Waiter). x.1.client == c in
           absurd (false≢true (sym none ∙ any-in test es d i (eq-eqb d.1.client c (sym one))))
@@ -197,11 +197,11 @@ nodes-agree f g p (e ∷ es) h = go (p e) (nodes-agree f g p es (λ d i. h d (in
 module _ (homes homes' : List (ℕ × ℕ)) (nodes nodes' : List (Option Node))
     (queues : List (ℕ × Queue)) (es : List (ℕ × Waiter))
     (kept : (d : ℕ × Waiter) → In d es
-    → home_of homes' d.1.client ≡ home_of homes d.1.client)
-    (same : (d : ℕ × Waiter) → In d es → (n : ℕ) → home_of homes d.1.client ≡ Some n
+    → node_index_of homes' d.1.client ≡ node_index_of homes d.1.client)
+    (same : (d : ℕ × Waiter) → In d es → (n : ℕ) → node_index_of homes d.1.client ≡ Some n
     → node_in nodes' n ≡ node_in nodes n)
-    (own : (c : ℕ) → entry_of homes' nodes' c ≡ entry_of homes nodes c)
-    (homed : AreHomes homes' nodes') (a : AreChains homes nodes queues es) where
+    (own : (c : ℕ) → entry_of_client homes' nodes' c ≡ entry_of_client homes nodes c)
+    (homed : AreNodeIndexes homes' nodes') (a : AreChains homes nodes queues es) where
   node_kept : (p : ℕ × Waiter → Bool) (m : ℕ)
       → is_listed m (nodes_of (index_of homes) (filter p es)) ≡ true
       → node_in nodes' m ≡ node_in nodes m
@@ -213,7 +213,7 @@ module _ (homes homes' : List (ℕ × ℕ)) (nodes nodes' : List (Option Node))
   pub chains-agree : AreChains homes' nodes' queues es
   chains-agree =
       record {
-        stand = a.stand;
+        queued = a.queued;
         homed = homed;
         own = λ c. own c ∙ a.own c;
         levels = a.levels;

@@ -6,15 +6,16 @@ use Rattle.std.specs.Prelude.{IfSome}
 use Rattle.std.specs.Map.{lookup}
 use Rattle.std.proofs.lemmas.Bool.Decides.{nat_tests}
 use Rattle.std.proofs.lemmas.List.{nil_from_length}
-use Rattle.pt_types.specs.Limits.{most_priority}
+use Rattle.pt_types.specs.Limits.{max_priority}
 use Rattle.pt_waitq.specs.declared.waiter.Waiter.{Waiter}
 use Rattle.pt_chains.specs.declared.nodes.Node.{Node}
 use Rattle.pt_chains.specs.declared.sides.Queue.{Queue}
 use Rattle.pt_waitq.specs.Queues.{In}
 use Rattle.pt_waitq.specs.Waits.{is_listed, queue_of}
-use Rattle.pt_chains.specs.Chains.{numbers, is_at, node_in, next_in, before_in, entry_in, client_in}
-use Rattle.pt_chains.specs.Chains.{home_of}
-use Rattle.pt_chains.specs.Chains.{AreChains, HasNone, IsTaken}
+use Rattle.pt_chains.specs.Chains.{numbers, is_at, node_in, next_in, before_in, entry_in}
+use Rattle.pt_chains.specs.Chains.{client_of_node}
+use Rattle.pt_chains.specs.Chains.{node_index_of}
+use Rattle.pt_chains.specs.Chains.{AreChains, HasNone, IsUnlinked}
 use Rattle.pt_chains.specs.Boxes.{no_queue, IsEmptied}
 use Rattle.pt_chains.proofs.ChainLemmas.{some_same, is-listed}
 use Rattle.pt_chains.proofs.MadeLemmas.{empty-none, chains-made}
@@ -62,11 +63,11 @@ own-with o q r (e ∷ es) h = go (nat_eq o e.0) (e.0 == o) refl refl h (own-with
 module _ (homes : List (ℕ × ℕ)) (nodes nodes' : List (Option Node))
     (queues queues' : List (ℕ × Queue)) (es : List (ℕ × Waiter)) (o p n : ℕ) (w : Waiter)
     (next before : Option ℕ) (a : AreChains homes nodes queues es) (in_es : In (o, w) es)
-    (home : home_of homes w.client ≡ Some n)
+    (home : node_index_of homes w.client ≡ Some n)
     (is : node_in nodes n
     ≡ Some (record { object = Some o; waiter = w; next = next; before = before }))
-    (level : p + 1 ≡ w.prio) (within : p < most_priority)
-    (made : is_listed o (numbers queues) ≡ true)
+    (level : p + 1 ≡ w.prio) (within : p < max_priority)
+    (is_queue : is_listed o (numbers queues) ≡ true)
     (same : numbers queues' ≡ numbers queues)
     (others : (x : ℕ) → (o == x) ≡ false
     → lookup (nat_eq x) queues' ≡ lookup (nat_eq x) queues)
@@ -76,7 +77,7 @@ module _ (homes : List (ℕ × ℕ)) (nodes nodes' : List (Option Node))
     (befores : (c : ℕ) → before_in nodes' c
     ≡ cond (n == c) None (cond (is_at c next) before (before_in nodes c)))
     (entries : (c : ℕ) → entry_in nodes' c ≡ cond (n == c) None (entry_in nodes c))
-    (clients : (c : ℕ) → client_in nodes' c ≡ client_in nodes c) where
+    (clients : (c : ℕ) → client_of_node nodes' c ≡ client_of_node nodes c) where
   abbrev left : List (ℕ × Waiter)
   left = filter (λ e. not (e.1.client == w.client)) es
 
@@ -87,10 +88,10 @@ module _ (homes : List (ℕ × ℕ)) (nodes nodes' : List (Option Node))
     pub last : is_some box ≡ not (is_listed o (numbers left))
 
   old : (q : Queue) × (lookup (nat_eq o) queues ≡ Some q)
-  old = is-listed queues o made
+  old = is-listed queues o is_queue
 
   new : (q : Queue) × (lookup (nat_eq o) queues' ≡ Some q)
-  new = is-listed queues' o (ap (is_listed o) same ∙ made)
+  new = is-listed queues' o (ap (is_listed o) same ∙ is_queue)
 
   -- a waiter is still there
   still : IsEmptied w.writer p before next old.0 new.0 None → IsLeft None
@@ -100,10 +101,11 @@ module _ (homes : List (ℕ × ℕ)) (nodes nodes' : List (Option Node))
       chains : AreChains homes nodes' queues' left
       chains =
           step-take homes nodes nodes' queues queues' es o p n w next before a in_es home is level
-          within made same others
+          within is_queue same others
           (λ q r h k.
-          subst (λ x. IsTaken w.writer p before next x r) (some_same old.0 q (sym old.1 ∙ h))
-          (subst (λ x. IsTaken w.writer p before next old.0 x) (some_same new.0 r (sym new.1 ∙ k))
+          subst (λ x. IsUnlinked w.writer p before next x r) (some_same old.0 q (sym old.1 ∙ h))
+          (subst (λ x. IsUnlinked w.writer p before next old.0 x) (some_same new.0 r (sym new.1
+          ∙ k))
           done.taken))
           there nexts befores entries clients
 
@@ -135,11 +137,11 @@ module _ (homes : List (ℕ × ℕ)) (nodes nodes' : List (Option Node))
       chains : AreChains homes nodes' between left
       chains =
           step-take homes nodes nodes' queues between es o p n w next before a in_es home is level
-          within made (numbers-with o q queues' ∙ same)
+          within is_queue (numbers-with o q queues' ∙ same)
           (λ x off. lookup-with o x q queues' off ∙ others x off)
           (λ r s h k.
-          subst (λ x. IsTaken w.writer p before next x s) (some_same old.0 r (sym old.1 ∙ h))
-          (subst (λ x. IsTaken w.writer p before next old.0 x) (some_same q s (sym own ∙ k))
+          subst (λ x. IsUnlinked w.writer p before next x s) (some_same old.0 r (sym old.1 ∙ h))
+          (subst (λ x. IsUnlinked w.writer p before next old.0 x) (some_same q s (sym own ∙ k))
           done.taken))
           there nexts befores entries clients
 

@@ -10,12 +10,12 @@ use Rattle.std.specs.List.{AllByRecursion as Each, list_any}
 use Rattle.std.proofs.lemmas.Bool.Decides.{nat_tests}
 use Rattle.std.proofs.lemmas.Bool.{false≢true, and_parts}
 use Rattle.std.proofs.lemmas.List.{length-map}
-use Rattle.pt_types.specs.KeyOrder.{rank}
-use Rattle.pt_types.specs.Limits.{most_priority}
+use Rattle.pt_types.specs.KeyOrder.{kind_rank}
+use Rattle.pt_types.specs.Limits.{max_priority}
 use Rattle.pt_waitq.specs.declared.waiter.Waiter.{Waiter}
 use Rattle.pt_chains.specs.declared.nodes.Node.{Node}
 use Rattle.pt_chains.specs.declared.sides.Queue.{Queue}
-use Rattle.pt_waitq.specs.Queues.{In, head_of, first_writer_of, holds_back}
+use Rattle.pt_waitq.specs.Queues.{In, head_of, first_writer_of, blocks_readers_from}
 use Rattle.pt_waitq.specs.Waits.{queue_of}
 use Rattle.pt_waitq.specs.ListLemmas.{Each-in, any-in, any-out, In-filter, filter-none}
 use Rattle.pt_waitq.specs.OrderLemmas.{filter-in-order}
@@ -87,7 +87,7 @@ module _ (homes : List (ℕ × ℕ)) (nodes : List (Option Node)) (queues : List
   -- a queue that does not exist is empty
   pub absent-empty : lookup (nat_eq o) queues ≡ None → queue_of o es ≡ []
   absent-empty h =
-      queue-none o es (unmade-none o (numbers queues) es a.stand.made
+      queue-none o es (unmade-none o (numbers queues) es a.queued.is_queue
       (listed-lookup o queues ∙ ap is_some h))
 
   -- the node of a waiter has the waiter's entry
@@ -111,18 +111,18 @@ module _ (homes : List (ℕ × ℕ)) (nodes : List (Option Node)) (queues : List
               (filter-in (λ (e : ℕ × Waiter). e.1.client == u.1.client) es u i own) h
       go (Some x) e is =
           let r = entry-there u.1.client es (Some x) (sym e ∙ is) in
-          e ∙ ap (λ y. Some y) (one_entry x u es a.stand.once r.0 i r.1)
+          e ∙ ap (λ y. Some y) (one_entry x u es a.queued.once r.0 i r.1)
 
   module _ (q : Queue) (at : lookup (nat_eq o) queues ≡ Some q) where
     -- the chain of a waiter of this queue is not empty
     some-there : (e : ℕ × Waiter) → In e es → (e.0 == o) ≡ true
-        → (p : ℕ) × (p < most_priority) × (e.1.prio ≡ p + 1)
+        → (p : ℕ) × (p < max_priority) × (e.1.prio ≡ p + 1)
         × (slice_index (side_of e.1.writer q).counts p ≢ 0)
     some-there e i h =
-        let level = Each-in (λ (d : ℕ × Waiter). (1 ≤ d.1.prio) × (d.1.prio ≤ most_priority)) es e
+        let level = Each-in (λ (d : ℕ × Waiter). (1 ≤ d.1.prio) × (d.1.prio ≤ max_priority)) es e
         a.levels i in
         let p : ℕ = e.1.prio - 1 in
-        let lt : p < most_priority = omega (arith, level.0, level.1) in
+        let lt : p < max_priority = omega (arith, level.0, level.1) in
         let is : e.1.prio ≡ p + 1 = omega (arith, level.0) in
         let chain = a.chains o q at e.1.writer p lt in
         let count = chain.count in
@@ -150,7 +150,7 @@ module _ (homes : List (ℕ × ℕ)) (nodes : List (Option Node)) (queues : List
             absurd (f r.0 r.1 both.0 both.1)
 
     -- the head of a chain that isn't empty
-    chain-head : (k : Bool) (p : ℕ) (head : Option ℕ) → p < most_priority
+    chain-head : (k : Bool) (p : ℕ) (head : Option ℕ) → p < max_priority
         → slice_index (side_of k q).counts p ≢ 0
         → head ≡ slice_index_or (side_of k q).heads p None
         → (u : ℕ × Waiter) × (option_and_then (entry_in nodes) head ≡ Some u)
@@ -179,16 +179,17 @@ module _ (homes : List (ℕ × ℕ)) (nodes : List (Option Node)) (queues : List
         go (nat_lt (p + 1) e.1.prio) refl r g
       where
         go : (b : Bool) → nat_lt (p + 1) e.1.prio ≡ b
-            → ((j : ℕ) × (j < most_priority) × (e.1.prio ≡ j + 1)
+            → ((j : ℕ) × (j < max_priority) × (e.1.prio ≡ j + 1)
             × (slice_index (side_of e.1.writer q).counts j ≢ 0))
-            → (b || ((e.1.prio == p + 1) && nat_lt (rank e.1.writer) (rank k))) ≡ true → ⊥
+            → (b || ((e.1.prio == p + 1) && nat_lt (kind_rank e.1.writer) (kind_rank k))) ≡ true → ⊥
         go true t r g =
             let above : p < r.0 = grind (arith, nat_tests, t, r.2) in
             r.3 (c.above e.1.writer r.0 r.1 above)
         go false t r g =
-            let both = and_parts (e.1.prio == p + 1) (nat_lt (rank e.1.writer) (rank k)) g in
+            let both = and_parts (e.1.prio == p + 1) (nat_lt (kind_rank e.1.writer)
+            (kind_rank k)) g in
             let same : r.0 ≡ p = grind (arith, nat_tests, both.0, r.2) in
-            let less : rank e.1.writer < rank k = grind (arith, nat_tests, both.1) in
+            let less : kind_rank e.1.writer < kind_rank k = grind (arith, nat_tests, both.1) in
             r.3 (ap (λ j. slice_index (side_of e.1.writer q).counts j) same
             ∙ c.beside e.1.writer less)
 
@@ -264,7 +265,7 @@ module _ (homes : List (ℕ × ℕ)) (nodes : List (Option Node)) (queues : List
             go false e = absurd (grind (arith, nat_tests, e, h))
 
         above : (p : ℕ)
-            → ((i : ℕ) → i < most_priority → p < i → slice_index q.writers.counts i ≡ 0)
+            → ((i : ℕ) → i < max_priority → p < i → slice_index q.writers.counts i ≡ 0)
             → (e : ℕ × Waiter) → In e es → (e.0 == o) ≡ true
             → (e.1.writer && goes_ahead true (p + 1) e.1) ≡ true → ⊥
         above p f e i h t =
@@ -282,7 +283,7 @@ module _ (homes : List (ℕ × ℕ)) (nodes : List (Option Node)) (queues : List
 
     -- whether a writer there holds a reader back
     pub back-there : (b : Bool) (p prio : ℕ) → p + 1 ≡ prio → IsTrue b ↔ HasWriterFrom q p
-        → b ≡ list_any (holds_back prio) (queue_of o es)
+        → b ≡ list_any (blocks_readers_from prio) (queue_of o es)
     back-there true p prio is h =
         let i = h.0 refl in
         let chain = a.chains o q at true i.0 i.2 in
@@ -290,8 +291,8 @@ module _ (homes : List (ℕ × ℕ)) (nodes : List (Option Node)) (queues : List
         let u = chain-first (chain_of o true (i.0 + 1) es) (λ z. i.3 (count ∙ z)) in
         let e = In-filter (in_chain o true (i.0 + 1)) es u.0 u.1 in
         let back = back-by u.0 i.0 p prio is i.1 e.1 in
-        sym (any-queue_of (holds_back prio) o es
-        ∙ any-in (λ (x : ℕ × Waiter). (x.0 == o) && holds_back prio x.1) es u.0 e.0 back)
+        sym (any-queue_of (blocks_readers_from prio) o es
+        ∙ any-in (λ (x : ℕ × Waiter). (x.0 == o) && blocks_readers_from prio x.1) es u.0 e.0 back)
       where
         chain-first : (ds : List (ℕ × Waiter)) → length (nodes_of (index_of homes) ds) ≢ 0
             → (u : ℕ × Waiter) × In u ds
@@ -299,14 +300,14 @@ module _ (homes : List (ℕ × ℕ)) (nodes : List (Option Node)) (queues : List
         chain-first (d ∷ ds) h = (d, inl refl)
 
         back-by : (u : ℕ × Waiter) (i p prio : ℕ) → p + 1 ≡ prio → p ≤ i
-            → in_chain o true (i + 1) u ≡ true → ((u.0 == o) && holds_back prio u.1) ≡ true
+            → in_chain o true (i + 1) u ≡ true → ((u.0 == o) && blocks_readers_from prio u.1) ≡ true
         back-by u i p prio is le h = go u.1.writer refl
           where
-            go : (b : Bool) → u.1.writer ≡ b → ((u.0 == o) && holds_back prio u.1) ≡ true
+            go : (b : Bool) → u.1.writer ≡ b → ((u.0 == o) && blocks_readers_from prio u.1) ≡ true
             go true e = grind (arith, nat_tests, e, h, is, le)
             go false e = absurd (grind (arith, nat_tests, e, h))
     back-there false p prio is h =
-        sym (none-passes (holds_back prio) (λ e i own t.
+        sym (none-passes (blocks_readers_from prio) (λ e i own t.
         let both = and_parts e.1.writer (nat_le prio e.1.prio) t in
         let r = some-there e i own in
         let le : p ≤ r.0 = grind (arith, nat_tests, both.1, r.2, is) in
@@ -385,11 +386,12 @@ module _ (homes : List (ℕ × ℕ)) (nodes : List (Option Node)) (queues : List
   pub back-told : (b : Bool) (p prio : ℕ) → p + 1 ≡ prio
       → (lookup (nat_eq o) queues ≡ None → b ≡ false)
       → ((q : Queue) → lookup (nat_eq o) queues ≡ Some q → IsTrue b ↔ HasWriterFrom q p)
-      → b ≡ list_any (holds_back prio) (queue_of o es)
+      → b ≡ list_any (blocks_readers_from prio) (queue_of o es)
   back-told b p prio is none some = go (lookup (nat_eq o) queues) refl
     where
       go : (x : Option Queue) → lookup (nat_eq o) queues ≡ x
-          → b ≡ list_any (holds_back prio) (queue_of o es)
+          → b ≡ list_any (blocks_readers_from prio) (queue_of o es)
       go (Some q) e = back-there homes nodes queues es a o q e b p prio is (some q e)
       go None e =
-          none e ∙ sym (ap (list_any (holds_back prio)) (absent-empty homes nodes queues es a o e))
+          none e ∙ sym (ap (list_any (blocks_readers_from prio))
+          (absent-empty homes nodes queues es a o e))

@@ -10,8 +10,8 @@ use Rattle.pt_chains.specs.declared.sides.Queue.{Queue}
 use Rattle.pt_waitq.specs.Queues.{In, head_of}
 use Rattle.pt_waitq.specs.Waits.{queue_of}
 use Rattle.pt_waitq.specs.ListLemmas.{any-in}
-use Rattle.pt_waitq.specs.WaitingLemmas.{one_entry, stands-entry}
-use Rattle.pt_chains.specs.Chains.{node_in, before_in, next_in, entry_at, home_of, index_of}
+use Rattle.pt_waitq.specs.WaitingLemmas.{one_entry, queued-entry}
+use Rattle.pt_chains.specs.Chains.{node_in, before_in, next_in, entry_at, node_index_of, index_of}
 use Rattle.pt_chains.specs.Chains.{nodes_of}
 use Rattle.pt_chains.specs.Chains.{chain_of, first_in, AreChains, IsFirst, Links}
 use Rattle.pt_chains.proofs.ChainLemmas.{entry-there}
@@ -24,7 +24,7 @@ pub record IsHead (homes : List (ℕ × ℕ)) (nodes : List (Option Node)) (es :
     (o n : ℕ) (w : Waiter) (next before : Option ℕ) : Type 0 where
   pub node : node_in nodes n
       ≡ Some (record { object = Some o; waiter = w; next = next; before = before })
-  pub home : home_of homes w.client ≡ Some n
+  pub home : node_index_of homes w.client ≡ Some n
   pub there : In (o, w) es
   pub first : Some w ≡ head_of (queue_of o es)
 
@@ -79,7 +79,7 @@ head-out homes nodes queues es a o at n w next before alone none some is lone =
         sym (ap (option_and_then (λ (k : Node). k.before)) is)
         ∙ (first-alone homes nodes queues es a o n none some ∙ sym lone)
 
-    home : home_of homes w.client ≡ Some n
+    home : node_index_of homes w.client ≡ Some n
     home = a.homed.own n w.client (ap (option_map (λ (k : Node). k.waiter.client)) is)
 
     there : In (at, w) es
@@ -96,6 +96,6 @@ head-out homes nodes queues es a o at n w next before alone none some is lone =
     same =
         let stands = any-in (λ (v : Waiter). v.client == w.client) (queue_of o es) w
         (head-in (queue_of o es) w (sym first)) (eq-eqb w.client w.client refl) in
-        let d = stands-entry w.client o es stands in
-        let one = one_entry (at, w) d.0 es a.stand.once there d.1 (sym d.3) in
+        let d = queued-entry w.client o es stands in
+        let one = one_entry (at, w) d.0 es a.queued.once there d.1 (sym d.3) in
         ap (λ (e : ℕ × Waiter). e.0) one ∙ d.2

@@ -10,14 +10,14 @@ use Rattle.pt_waitq.specs.declared.waiter.Waiter.{Waiter}
 use Rattle.pt_chains.specs.declared.nodes.Node.{Node}
 use Rattle.pt_chains.specs.declared.sides.Queue.{Queue}
 use Rattle.pt_waitq.specs.Waits.{is_listed, has_waiter}
-use Rattle.pt_chains.specs.Chains.{numbers, home_of, entry_in, AreChains}
-use Rattle.pt_chains.specs.Boxes.{busy, AreBoxes}
+use Rattle.pt_chains.specs.Chains.{numbers, node_index_of, entry_in, AreChains}
+use Rattle.pt_chains.specs.Boxes.{busy_queue_count, AreBoxes}
 use Rattle.pt_chains.proofs.ChainLemmas.{listed-lookup, chains-agree}
 
 -- the same nodes, and each client has the one that it had
 pub chains-same : (homes hs : List (ℕ × ℕ)) (nodes ns : List (Option Node))
     (queues : List (ℕ × Queue)) (es : List (ℕ × Waiter))
-    → ((d : ℕ) → home_of hs d ≡ home_of homes d) → length hs ≡ length homes → ns ≡ nodes
+    → ((d : ℕ) → node_index_of hs d ≡ node_index_of homes d) → length hs ≡ length homes → ns ≡ nodes
     → AreChains homes nodes queues es → AreChains hs ns queues es
 chains-same homes hs nodes ns queues es same count alike a =
     subst (λ xs. AreChains hs xs queues es) (sym alike)
@@ -25,14 +25,14 @@ chains-same homes hs nodes ns queues es same count alike a =
     (λ d. ap (option_and_then (entry_in nodes)) (same d))
     (record {
       there = λ d n e. a.homed.there d n (sym (same d) ∙ e);
-      apart = λ d e n h k. a.homed.apart d e n (sym (same d) ∙ h) (sym (same e) ∙ k);
+      disjoint = λ d e n h k. a.homed.disjoint d e n (sym (same d) ∙ h) (sym (same e) ∙ k);
       own = λ n d e. same d ∙ a.homed.own n d e;
-      few = let few = a.homed.few in omega (arith, few, count);
+      bounded = let bounded = a.homed.bounded in omega (arith, bounded, count);
     })
     a)
 
 -- the same clients
-pub still-listed : (homes hs : List (ℕ × ℕ)) (d : ℕ) → home_of hs d ≡ home_of homes d
+pub still-listed : (homes hs : List (ℕ × ℕ)) (d : ℕ) → node_index_of hs d ≡ node_index_of homes d
     → is_listed d (numbers hs) ≡ is_listed d (numbers homes)
 still-listed homes hs d same =
     listed-lookup d hs ∙ (ap is_some same ∙ sym (listed-lookup d homes))
@@ -44,7 +44,7 @@ pub boxes-same : (clients clients' objects : ℕ) (es : List (ℕ × Waiter))
     → AreBoxes clients' objects es spares' room' boxes
 boxes-same clients clients' objects es spares spares' room room' boxes fewer same wider b =
     record {
-      count = b.count ∙ ap (λ n. busy es + n) (sym same);
+      count = b.count ∙ ap (λ n. busy_queue_count es + n) (sym same);
       enough = subst (λ n. min n objects ≤ boxes) (sym fewer) b.enough;
       fit = fits boxes room room' b.fit wider;
     }
@@ -79,12 +79,12 @@ at-most n = omega arith
 
 -- one more client is admitted
 pub one-admitted : (homes hs : List (ℕ × ℕ)) (es : List (ℕ × Waiter)) (k n d : ℕ)
-    → home_of hs d ≡ cond (k == d) (Some n) (home_of homes d)
+    → node_index_of hs d ≡ cond (k == d) (Some n) (node_index_of homes d)
     → (is_listed d (numbers hs) || has_waiter d es)
     ≡ ((k == d) || (is_listed d (numbers homes) || has_waiter d es))
 one-admitted homes hs es k n d e =
     ap (λ b. b || has_waiter d es) (listed-lookup d hs ∙ ap is_some e)
-    ∙ (go (k == d) (home_of homes d)
+    ∙ (go (k == d) (node_index_of homes d)
     ∙ ap (λ b. (k == d) || (b || has_waiter d es)) (sym (listed-lookup d homes)))
   where
     go : (b : Bool) (f : Option ℕ) → (is_some (cond b (Some n) f) || has_waiter d es)

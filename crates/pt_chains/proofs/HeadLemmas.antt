@@ -4,7 +4,7 @@ use Rattle.std.proofs.Common.{◌∷◌, map, filter, Some, inl, refl, sym, ap, 
 use Rattle.std.proofs.lemmas.Bool.Decides.{nat_tests}
 use Rattle.std.proofs.lemmas.Bool.{false≢true}
 use Rattle.std.specs.List.{AllByRecursion as Each}
-use Rattle.pt_types.specs.KeyOrder.{rank}
+use Rattle.pt_types.specs.KeyOrder.{kind_rank}
 use Rattle.pt_waitq.specs.declared.waiter.Waiter.{Waiter}
 use Rattle.pt_waitq.specs.Queues.{In, comes_before, head_of, IsInKeyOrder}
 use Rattle.pt_waitq.specs.Waits.{queue_of}
@@ -15,7 +15,7 @@ use Rattle.pt_chains.proofs.SortedLemmas.{kind-of}
 
 -- whether a waiter belongs to a chain that goes ahead of this one
 abbrev pub goes_ahead : Bool → ℕ → Waiter → Bool
-goes_ahead k p v = nat_lt p v.prio || ((v.prio == p) && nat_lt (rank v.writer) (rank k))
+goes_ahead k p v = nat_lt p v.prio || ((v.prio == p) && nat_lt (kind_rank v.writer) (kind_rank k))
 
 kind-ahead : (k : Bool) (p : ℕ) (u v : Waiter) → is_kind k p u ≡ true → is_kind k p v ≡ false
     → goes_ahead k p v ≡ false → comes_before u v ≡ true

@@ -5,10 +5,10 @@ use Rattle.std.proofs.Common.{eq-eqb, length, take, length-take, get_or-take}
 use Rattle.std.specs.Prelude.{◌&&◌, is_some, slice_index, slice_index_or, MatchOption}
 use Rattle.std.proofs.lemmas.Bool.Decides.{nat_tests}
 use Rattle.pt_lanes.specs.Counts.{IsHighest}
-use Rattle.pt_types.specs.Limits.{most_priority}
+use Rattle.pt_types.specs.Limits.{max_priority}
 use Rattle.pt_chains.specs.declared.sides.Side.{Side}
 use Rattle.pt_chains.specs.declared.sides.Queue.{Queue}
-use Rattle.pt_chains.specs.Chains.{side_of, HasNone, IsTaken}
+use Rattle.pt_chains.specs.Chains.{side_of, HasNone, IsUnlinked}
 use Rattle.pt_chains.specs.Boxes.{IsLone}
 use Rattle.pt_chains.specs.Highest.{NoneAbove, IsBound, IsHighestChain}
 
@@ -22,14 +22,14 @@ one-less n = omega arith
 -- the counts after the one at p became n
 abbrev pub IsStepped : List ℕ → List ℕ → ℕ → ℕ → Type 0
 IsStepped old new p n =
-    (i : ℕ) → i < most_priority → slice_index new i ≡ cond (p == i) n (slice_index old i)
+    (i : ℕ) → i < max_priority → slice_index new i ≡ cond (p == i) n (slice_index old i)
 
-module _ (old new : List ℕ) (p n : ℕ) (within : p < most_priority)
+module _ (old new : List ℕ) (p n : ℕ) (within : p < max_priority)
     (step : IsStepped old new p n) where
   at : slice_index new p ≡ n
   at = step p within ∙ ap (λ b. cond b n (slice_index old p)) (eq-eqb p p refl)
 
-  off : (i : ℕ) → i < most_priority → (p == i) ≡ false → slice_index new i ≡ slice_index old i
+  off : (i : ℕ) → i < max_priority → (p == i) ≡ false → slice_index new i ≡ slice_index old i
   off i lt e = step i lt ∙ ap (λ b. cond b n (slice_index old i)) e
 
   -- a chain that is made longer
@@ -65,7 +65,7 @@ module _ (old new : List ℕ) (p n : ℕ) (within : p < most_priority)
                 off i lt (grind (arith, nat_tests, less, above)) ∙ a.2 i lt above,
           )
 
-  stays-zero : n ≤ slice_index old p → (i : ℕ) → i < most_priority → slice_index old i ≡ 0
+  stays-zero : n ≤ slice_index old p → (i : ℕ) → i < max_priority → slice_index old i ≡ 0
       → slice_index new i ≡ 0
   stays-zero le i lt z = go (p == i) refl
     where
@@ -103,7 +103,7 @@ AreRaised false p w r w' r' = IsRaised p r r' × (w' ≡ w)
 
 -- a waiter is put in
 pub put-highest : (k : Bool) (old new : Queue) (p : ℕ) (w r w' r' : Option ℕ)
-    → p < most_priority → side_of (not k) new ≡ side_of (not k) old
+    → p < max_priority → side_of (not k) new ≡ side_of (not k) old
     → IsStepped (side_of k old).counts (side_of k new).counts p
     (slice_index (side_of k old).counts p + 1)
     → AreRaised k p w r w' r'
@@ -124,7 +124,7 @@ put-highest false old new p w r w' r' within other step is a = (
 
 -- a waiter is taken out
 pub take-bound : (k : Bool) (old new : Queue) (p : ℕ) (w r : Option ℕ)
-    → p < most_priority
+    → p < max_priority
     → IsStepped (side_of k old).counts (side_of k new).counts p
     (slice_index (side_of k old).counts p - 1)
     → IsHighestChain old.writers.counts w × IsHighestChain old.readers.counts r
@@ -135,7 +135,7 @@ take-bound false old new p w r within step a =
     lowered-bound old.readers.counts new.readers.counts p _ within step r (omega arith) a.1
 
 -- one of a kind is taken out
-module _ (k : Bool) (old new : Queue) (p : ℕ) (w r : Option ℕ) (within : p < most_priority)
+module _ (k : Bool) (old new : Queue) (p : ℕ) (w r : Option ℕ) (within : p < max_priority)
     (other : side_of (not k) new ≡ side_of (not k) old)
     (step : IsStepped (side_of k old).counts (side_of k new).counts p
     (slice_index (side_of k old).counts p - 1))
@@ -180,13 +180,13 @@ pub taken-whole : (k : Bool) (p : ℕ) (before next : Option ℕ) (old now new :
     → new.len + 1 ≡ old.len → side_of (not k) new ≡ side_of (not k) old
     → IsStepped (side_of k old).counts (side_of k new).counts p
     (slice_index (side_of k old).counts p - 1)
-    → ((i : ℕ) → i < most_priority → slice_index_or (side_of k new).tails i None
+    → ((i : ℕ) → i < max_priority → slice_index_or (side_of k new).tails i None
     ≡ cond ((p == i) && not (is_some next)) before (slice_index_or (side_of k old).tails i None))
-    → ((i : ℕ) → i < most_priority → slice_index_or (side_of k new).heads i None
+    → ((i : ℕ) → i < max_priority → slice_index_or (side_of k new).heads i None
     ≡ cond ((p == i) && not (is_some before)) next (slice_index_or (side_of k old).heads i None))
-    → IsTaken k p before next now new
+    → IsUnlinked k p before next now new
 taken-whole k p before next old now new same len other counts tails heads =
-    subst (λ q. IsTaken k p before next q new) same (record {
+    subst (λ q. IsUnlinked k p before next q new) same (record {
       len = len;
       other = λ i lt.
           record {
@@ -208,15 +208,15 @@ pub none-highest : (q : Queue) → HasNone q
 none-highest q h = (λ p lt. h.counts true p lt, λ p lt. h.counts false p lt)
 
 -- the highest among the counts below one that is zero
-module _ (counts : List ℕ) (i : ℕ) (all : length counts ≡ most_priority)
-    (bound : (i < most_priority) × NoneAbove counts i) (zero : slice_index counts i ≡ 0) where
+module _ (counts : List ℕ) (i : ℕ) (all : length counts ≡ max_priority)
+    (bound : (i < max_priority) × NoneAbove counts i) (zero : slice_index counts i ≡ 0) where
   shorter : length (take i counts) ≡ i
   shorter = let within = bound.0 in omega (arith, length-take i counts, all, within)
 
   same : (j : ℕ) → j < i → slice_index (take i counts) j ≡ slice_index counts j
   same j less = get_or-take i counts j 0 less
 
-  none-from : (j : ℕ) → j < most_priority → i ≤ j → slice_index counts j ≡ 0
+  none-from : (j : ℕ) → j < max_priority → i ≤ j → slice_index counts j ≡ 0
   none-from j lt le = go (nat_le j i) refl
     where
       go : (b : Bool) → nat_le j i ≡ b → slice_index counts j ≡ 0
@@ -225,7 +225,7 @@ module _ (counts : List ℕ) (i : ℕ) (all : length counts ≡ most_priority)
           ap (slice_index counts) own ∙ zero
       go false e = bound.1 j lt (grind (arith, nat_tests))
 
-  zero-at : (j : ℕ) → j < most_priority → (j < i → slice_index counts j ≡ 0)
+  zero-at : (j : ℕ) → j < max_priority → (j < i → slice_index counts j ≡ 0)
       → slice_index counts j ≡ 0
   zero-at j lt below = go (nat_le i j) refl
     where
@@ -255,19 +255,19 @@ module _ (counts : List ℕ) (i : ℕ) (all : length counts ≡ most_priority)
           absurd (omega (arith, le, above))
 
 -- a lone chain is the highest of its kind
-alone-highest : (counts : List ℕ) (p n : ℕ) → p < most_priority → n ≢ 0
-    → ((i : ℕ) → i < most_priority → slice_index counts i ≡ cond (p == i) n 0)
+alone-highest : (counts : List ℕ) (p n : ℕ) → p < max_priority → n ≢ 0
+    → ((i : ℕ) → i < max_priority → slice_index counts i ≡ cond (p == i) n 0)
     → IsHighestChain counts (Some p)
 alone-highest counts p n within some count = (
   within,
   λ z. some (sym (ap (λ b. cond b n 0) (eq-eqb p p refl)) ∙ (sym (count p within) ∙ z)),
   λ i lt above.
-      let apart : (p == i) ≡ false = grind (arith, nat_tests, above) in
-      count i lt ∙ ap (λ b. cond b n 0) apart,
+      let disjoint : (p == i) ≡ false = grind (arith, nat_tests, above) in
+      count i lt ∙ ap (λ b. cond b n 0) disjoint,
 )
 
 pub lone-highest : (k : Bool) (p n : ℕ) (head tail : Option ℕ) (q : Queue) (w r : Option ℕ)
-    → p < most_priority → n ≢ 0 → IsLone k p head tail n q → w ≡ cond k (Some p) None
+    → p < max_priority → n ≢ 0 → IsLone k p head tail n q → w ≡ cond k (Some p) None
     → r ≡ cond k None (Some p)
     → IsHighestChain q.writers.counts w × IsHighestChain q.readers.counts r
 lone-highest true p n head tail q w r within some is writer reader = (

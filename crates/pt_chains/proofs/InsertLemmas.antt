@@ -11,7 +11,8 @@ use Rattle.pt_waitq.specs.Queues.{In}
 use Rattle.pt_waitq.specs.QueueLemmas.{length-queue_from}
 use Rattle.pt_waitq.specs.Waits.{is_listed, has_waiter, queue_of, IsOnce}
 use Rattle.pt_waitq.specs.ListLemmas.{any-in, any-out, filter-none, filter-fewer}
-use Rattle.pt_chains.specs.Chains.{numbers, first_entry, in_chain, chain_of, nodes_of, home_of}
+use Rattle.pt_chains.specs.Chains.{numbers, first_entry, in_chain, chain_of, nodes_of}
+use Rattle.pt_chains.specs.Chains.{node_index_of}
 use Rattle.pt_chains.specs.Chains.{Unique, AreChains}
 use Rattle.pt_chains.proofs.LinkLemmas.{listed_apart, eq_turned, eq_true}
 use Rattle.pt_chains.proofs.ChainLemmas.{chain-member, listed-lookup, home-there}
@@ -61,15 +62,15 @@ pub unique-chain : (f : ℕ → ℕ) (p : ℕ × Waiter → Bool) (es : List (�
     → ((d e : ℕ × Waiter) → In d es → In e es → f d.1.client ≡ f e.1.client
     → d.1.client ≡ e.1.client)
     → Unique (nodes_of f (filter p es))
-unique-chain f p [] a apart = tt
-unique-chain f p (e ∷ es) a apart =
-    go (p e) (unique-chain f p es a.1 (λ x y i j. apart x y (inr i) (inr j)))
+unique-chain f p [] a disjoint = tt
+unique-chain f p (e ∷ es) a disjoint =
+    go (p e) (unique-chain f p es a.1 (λ x y i j. disjoint x y (inr i) (inr j)))
   where
     out : (b : Bool) → is_listed (f e.1.client) (nodes_of f (filter p es)) ≡ b → b ≡ false
     out false h = refl
     out true h =
         let d = chain-member f p (f e.1.client) es h in
-        let same = apart d.0 e (inr d.1) (inl refl) d.3 in
+        let same = disjoint d.0 e (inr d.1) (inl refl) d.3 in
         let test = λ (x : ℕ × Waiter). x.1.client == e.1.client in
         absurd (false≢true (sym a.0
         ∙ any-in test es d.0 d.1 (eq-eqb d.0.1.client e.1.client same)))
@@ -144,8 +145,8 @@ length-nodes f (e ∷ es) = let h = length-nodes f es in omega (arith, h)
 -- there are at least as many nodes as waiters and one more client that has a node
 module _ (homes : List (ℕ × ℕ)) (nodes : List (Option Node)) (queues : List (ℕ × Queue))
     (es : List (ℕ × Waiter)) (c n : ℕ) (a : AreChains homes nodes queues es)
-    (at : home_of homes c ≡ Some n) (none : has_waiter c es ≡ false) where
-  homed : (d m : ℕ) → home_of homes d ≡ Some m → is_listed d (numbers homes) ≡ true
+    (at : node_index_of homes c ≡ Some n) (none : has_waiter c es ≡ false) where
+  homed : (d m : ℕ) → node_index_of homes d ≡ Some m → is_listed d (numbers homes) ≡ true
   homed d m e = listed-lookup d homes ∙ ap is_some e
 
   all-homed : (m : ℕ) → is_listed m (c ∷ nodes_of (λ k. k) es) ≡ true
@@ -167,11 +168,11 @@ module _ (homes : List (ℕ × ℕ)) (nodes : List (Option Node)) (queues : List
   pub waiters-few : length es + 1 ≤ length homes
   waiters-few =
       let most = no-more (c ∷ nodes_of (λ k. k) es) (numbers homes)
-      (listed-clients c es ∙ none, unique-clients es a.stand.once) all-homed in
+      (listed-clients c es ∙ none, unique-clients es a.queued.once) all-homed in
       omega (arith, most, length-clients es, length-numbers homes)
 
   room : length es + 1 < 2 ^ 32
-  room = let few = a.homed.few in omega (arith, few, waiters-few)
+  room = let bounded = a.homed.bounded in omega (arith, bounded, waiters-few)
 
   pub chain-room : (f : ℕ → ℕ) (o : ℕ) (k : Bool) (p : ℕ)
       → length (nodes_of f (chain_of o k p es)) + 1 < 2 ^ 32
@@ -181,8 +182,8 @@ module _ (homes : List (ℕ × ℕ)) (nodes : List (Option Node)) (queues : List
   pub queue-room : (o : ℕ) → length (queue_of o es) + 1 < 2 ^ 64
   queue-room o =
       let most = length-queue_from [] o es in
-      let few = room in
-      omega (arith, few, most)
+      let bounded = room in
+      omega (arith, bounded, most)
 
 -- a chain to which the waiter does not belong, and its own
 pub chain-other : (o' : ℕ) (k : Bool) (p : ℕ) (es : List (ℕ × Waiter)) (e : ℕ × Waiter)

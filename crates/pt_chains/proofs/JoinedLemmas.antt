@@ -7,9 +7,9 @@ use Rattle.std.specs.Option.{option_map, option_to_list}
 use Rattle.std.specs.List.{AllByRecursion as Each}
 use Rattle.std.proofs.lemmas.Bool.{false≢true}
 use Rattle.std.proofs.lemmas.Bool.Decides.{nat_tests}
-use Rattle.pt_types.specs.Limits.{most_priority}
+use Rattle.pt_types.specs.Limits.{max_priority}
 use Rattle.pt_chains.specs.declared.sides.Queue.{Queue}
-use Rattle.pt_chains.specs.Chains.{side_of, HasNone, IsTaken}
+use Rattle.pt_chains.specs.Chains.{side_of, HasNone, IsUnlinked}
 use Rattle.pt_chains.specs.Boxes.{no_queue, IsSame, IsEmptied}
 use Rattle.pt_chains.proofs.BoxLemmas.{each-last}
 use Rattle.pt_chains.proofs.LoneLemmas.{taken-same}
@@ -60,13 +60,13 @@ module _ {X : Type 0} (f : X → Queue) (joined : Option X) (x : X) (at : joined
       let there = subst (λ o. IfSome o (λ b. (f b).len ≢ 0)) at some in
       there (ap (λ (q : Queue). q.len) (sym lent) ∙ (joined-same.len ∙ z))
 
-module _ (k : Bool) (p : ℕ) (old box : Queue) (within : p < most_priority)
+module _ (k : Bool) (p : ℕ) (old box : Queue) (within : p < max_priority)
     (same : IsSame old box) where
   pub same-count : slice_index (side_of k old).counts p ≡ slice_index (side_of k box).counts p
   same-count = sym (same.chains k p within).count
 
   -- the last waiter is taken out, or one of several
-  pub emptied-joined : (before next : Option ℕ) (q : Queue) → IsTaken k p before next box q
+  pub emptied-joined : (before next : Option ℕ) (q : Queue) → IsUnlinked k p before next box q
       → true ≡ (q.len == 0) → IsEmptied k p before next old no_queue (Some q)
   emptied-joined before next q taken last =
       record {
@@ -75,7 +75,7 @@ module _ (k : Bool) (p : ℕ) (old box : Queue) (within : p < most_priority)
         left = tt;
       }
 
-  pub lessened-joined : (before next : Option ℕ) (q : Queue) → IsTaken k p before next box q
+  pub lessened-joined : (before next : Option ℕ) (q : Queue) → IsUnlinked k p before next box q
       → false ≡ (q.len == 0) → IsEmptied k p before next old q None
   lessened-joined before next q taken last =
       record {

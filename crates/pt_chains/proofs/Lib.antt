@@ -8,8 +8,8 @@ mod SortedLemmas
 mod HeadLemmas
 -- ChainLemmas: what nodes and the ends of chains say of the queues
 mod ChainLemmas
--- HomeLemmas: nodes as clients come and go
-mod HomeLemmas
+-- NodeIndexLemmas: nodes as clients come and go
+mod NodeIndexLemmas
 -- InsertLemmas: what stays true of nodes and chains as a waiter is put in
 mod InsertLemmas
 -- PutLemmas: a waiter is put in: what is true of nodes, chains and queues stays true

@@ -7,11 +7,11 @@ use Rattle.std.specs.Prelude.{◌⊎◌, slice_index}
 use Rattle.std.proofs.lemmas.Bool.Decides.{nat_tests}
 use Rattle.std.proofs.lemmas.Grind.{get_or-set_at}
 use Rattle.std.proofs.lemmas.List.{get_or-replicate, get_or-set_other, length-replicate}
-use Rattle.pt_types.specs.KeyOrder.{rank}
-use Rattle.pt_types.specs.Limits.{most_priority}
+use Rattle.pt_types.specs.KeyOrder.{kind_rank}
+use Rattle.pt_types.specs.Limits.{max_priority}
 use Rattle.pt_chains.specs.declared.sides.Side.{Side}
 use Rattle.pt_chains.specs.declared.sides.Queue.{Queue}
-use Rattle.pt_chains.specs.Chains.{side_of, HasNone, IsSameChain, IsPut, IsTaken}
+use Rattle.pt_chains.specs.Chains.{side_of, HasNone, IsSameChain, IsAppended, IsUnlinked}
 use Rattle.pt_chains.specs.Chains.{IsFirst, IsFirstChain}
 use Rattle.pt_chains.specs.Boxes.{no_queue, lone_queue, IsNoChain, IsLone, IsSame}
 use Rattle.pt_chains.proofs.BoxLemmas.{none-without}
@@ -29,21 +29,21 @@ and-true : (t : Bool) → (t && true) ≡ t
 and-true true = refl
 and-true false = refl
 
-off-set : {X : Type 0} (p i : ℕ) (x d : X) → p < most_priority → i < most_priority
-    → slice_index_or (set (replicate most_priority d) p x) i d ≡ cond (p == i) x d
+off-set : {X : Type 0} (p i : ℕ) (x d : X) → p < max_priority → i < max_priority
+    → slice_index_or (set (replicate max_priority d) p x) i d ≡ cond (p == i) x d
 off-set p i x d within lt = go (p == i) refl
   where
     go : (t : Bool) → (p == i) ≡ t
-        → slice_index_or (set (replicate most_priority d) p x) i d ≡ cond t x d
+        → slice_index_or (set (replicate max_priority d) p x) i d ≡ cond t x d
     go true e =
-        get_or-set_at (replicate most_priority d) p i x d (grind (arith, nat_tests))
-        (subst (λ m. p < m) (sym (length-replicate most_priority d)) within)
+        get_or-set_at (replicate max_priority d) p i x d (grind (arith, nat_tests))
+        (subst (λ m. p < m) (sym (length-replicate max_priority d)) within)
     go false e =
-        get_or-set_other (replicate most_priority d) p i x d
+        get_or-set_other (replicate max_priority d) p i x d
         (λ s. absurd (grind (arith, nat_tests)))
-        ∙ get_or-replicate most_priority i d d lt
+        ∙ get_or-replicate max_priority i d d lt
 
-none-at : (k : Bool) (i : ℕ) → i < most_priority → IsNoChain (side_of k no_queue) i
+none-at : (k : Bool) (i : ℕ) → i < max_priority → IsNoChain (side_of k no_queue) i
 none-at k i lt =
     record {
       count = none-without.counts k i lt;
@@ -55,7 +55,7 @@ and-false : (t : Bool) → (t && false) ≡ false
 and-false true = refl
 and-false false = refl
 
-pub lone-queue : (k : Bool) (p n : ℕ) (head tail : Option ℕ) → p < most_priority
+pub lone-queue : (k : Bool) (p n : ℕ) (head tail : Option ℕ) → p < max_priority
     → IsLone k p head tail n (lone_queue head tail n k p)
 lone-queue true p n head tail within =
     record {
@@ -78,11 +78,11 @@ lone-queue false p n head tail within =
 pub set-lone : (k : Bool) (p n : ℕ) (head tail : Option ℕ) (old new : Queue) → HasNone old
     → new.len ≡ n
     → side_of (not k) new ≡ side_of (not k) old
-    → ((i : ℕ) → i < most_priority → slice_index (side_of k new).counts i
+    → ((i : ℕ) → i < max_priority → slice_index (side_of k new).counts i
     ≡ cond (p == i) n (slice_index (side_of k old).counts i))
-    → ((i : ℕ) → i < most_priority → slice_index_or (side_of k new).tails i None
+    → ((i : ℕ) → i < max_priority → slice_index_or (side_of k new).tails i None
     ≡ cond (p == i) tail (slice_index_or (side_of k old).tails i None))
-    → ((i : ℕ) → i < most_priority → slice_index_or (side_of k new).heads i None
+    → ((i : ℕ) → i < max_priority → slice_index_or (side_of k new).heads i None
     ≡ cond (p == i) head (slice_index_or (side_of k old).heads i None))
     → IsLone k p head tail n new
 set-lone k p n head tail old new none len other counts tails heads =
@@ -106,7 +106,7 @@ pub both-lone : (k : Bool) (p n : ℕ) (head tail : Option ℕ) (a b : Queue)
 both-lone k p n head tail a b x y =
     record { len = y.len ∙ sym x.len; chains = λ l i lt. go l i lt (either l k) }
   where
-    go : (l : Bool) (i : ℕ) → i < most_priority → (l ≡ k) ⊎ (l ≡ not k)
+    go : (l : Bool) (i : ℕ) → i < max_priority → (l ≡ k) ⊎ (l ≡ not k)
         → IsSameChain (side_of l a) (side_of l b) i
     go l i lt (inl e) =
         subst (λ m. IsSameChain (side_of m a) (side_of m b) i) (sym e)
@@ -124,8 +124,8 @@ both-lone k p n head tail a b x y =
         })
 
 -- a node that is put into a queue with no box waits there alone
-pub put-first : (k : Bool) (p n : ℕ) → p < most_priority
-    → IsPut k p n None no_queue (lone_queue (Some n) (Some n) 1 k p)
+pub put-first : (k : Bool) (p n : ℕ) → p < max_priority
+    → IsAppended k p n None no_queue (lone_queue (Some n) (Some n) 1 k p)
 put-first k p n within =
     let is = lone-queue k p 1 (Some n) (Some n) within in
     record {
@@ -154,13 +154,13 @@ put-first k p n within =
           ∙ ap (λ x. cond (p == i) (Some n) x) (none-without.heads k i lt)));
     }
 
-module _ (k : Bool) (p n : ℕ) (old box new : Queue) (within : p < most_priority)
+module _ (k : Bool) (p n : ℕ) (old box new : Queue) (within : p < max_priority)
     (same : IsSame old box) where
-  at : (l : Bool) (i : ℕ) → i < most_priority → IsSameChain (side_of l old) (side_of l box) i
+  at : (l : Bool) (i : ℕ) → i < max_priority → IsSameChain (side_of l old) (side_of l box) i
   at = same.chains
 
   -- what is put into a queue's box is put into the queue
-  pub put-same : (tail : Option ℕ) → IsPut k p n tail box new → IsPut k p n tail old new
+  pub put-same : (tail : Option ℕ) → IsAppended k p n tail box new → IsAppended k p n tail old new
   put-same tail put =
       record {
         len = put.len ∙ ap (λ m. m + 1) same.len;
@@ -189,8 +189,8 @@ module _ (k : Bool) (p n : ℕ) (old box new : Queue) (within : p < most_priorit
       }
 
   -- what is taken out of a queue's box is taken out of the queue
-  pub taken-same : (before next : Option ℕ) → IsTaken k p before next box new
-      → IsTaken k p before next old new
+  pub taken-same : (before next : Option ℕ) → IsUnlinked k p before next box new
+      → IsUnlinked k p before next old new
   taken-same before next taken =
       record {
         len = taken.len ∙ same.len;
@@ -214,7 +214,7 @@ module _ (k : Bool) (p n : ℕ) (old box new : Queue) (within : p < most_priorit
             ∙ ap (λ x. cond ((p == i) && not (is_some before)) next x) (at k i lt).head;
       }
 
-module _ (k : Bool) (p n : ℕ) (head tail : Option ℕ) (q : Queue) (within : p < most_priority)
+module _ (k : Bool) (p n : ℕ) (head tail : Option ℕ) (q : Queue) (within : p < max_priority)
     (is : IsLone k p head tail n q) where
   pub own-count : slice_index (side_of k q).counts p ≡ n
   own-count = is.count p within ∙ ap (λ t. cond t n 0) (self p)
@@ -225,8 +225,8 @@ module _ (k : Bool) (p n : ℕ) (head tail : Option ℕ) (q : Queue) (within : p
   own-tail : slice_index_or (side_of k q).tails p None ≡ tail
   own-tail = is.tail p within ∙ ap (λ t. cond t tail None) (self p)
 
-  pub apart : (i : ℕ) → i < most_priority → p ≢ i → slice_index (side_of k q).counts i ≡ 0
-  apart i lt off = go (p == i) refl (is.count i lt)
+  pub disjoint : (i : ℕ) → i < max_priority → p ≢ i → slice_index (side_of k q).counts i ≡ 0
+  disjoint i lt off = go (p == i) refl (is.count i lt)
     where
       go : (t : Bool) → (p == i) ≡ t → slice_index (side_of k q).counts i ≡ cond t n 0
           → slice_index (side_of k q).counts i ≡ 0
@@ -234,7 +234,7 @@ module _ (k : Bool) (p n : ℕ) (head tail : Option ℕ) (q : Queue) (within : p
       go false e h = h
 
   -- the chain of each waiter is the lone one
-  pub stands-lone : (w : Bool) (i : ℕ) → i < most_priority
+  pub stands-lone : (w : Bool) (i : ℕ) → i < max_priority
       → 1 ≤ slice_index (side_of w q).counts i → (w ≡ k) × (i ≡ p)
   stands-lone w i lt some = go (either w k)
     where
@@ -253,7 +253,7 @@ module _ (k : Bool) (p n : ℕ) (head tail : Option ℕ) (q : Queue) (within : p
           absurd (omega (arith, some', none))
 
   -- the only waiter is taken out of a queue whose box is empty
-  pub taken-lone : n ≡ 1 → (box : Queue) → HasNone box → IsTaken k p None None q box
+  pub taken-lone : n ≡ 1 → (box : Queue) → HasNone box → IsUnlinked k p None None q box
   taken-lone one box none =
       record {
         len = ap (λ m. m + 1) none.len ∙ sym (is.len ∙ one);
@@ -268,7 +268,7 @@ module _ (k : Bool) (p n : ℕ) (head tail : Option ℕ) (q : Queue) (within : p
         heads = λ i lt. none.heads k i lt ∙ sym (ends head i (p == i) refl _ (is.head i lt));
       }
     where
-      counts : (i : ℕ) → i < most_priority → (t : Bool) → (p == i) ≡ t
+      counts : (i : ℕ) → i < max_priority → (t : Bool) → (p == i) ≡ t
           → cond t (slice_index (side_of k q).counts p - 1) (slice_index (side_of k q).counts i)
           ≡ 0
       counts i lt true e = ap (λ m. m - 1) (own-count ∙ one)
@@ -281,7 +281,7 @@ module _ (k : Bool) (p n : ℕ) (head tail : Option ℕ) (q : Queue) (within : p
 
   -- one of several waiters is taken out of the chain
   pub taken-more : (before next : Option ℕ) → n ≢ 0
-      → IsTaken k p before next q (lone_queue (cond (is_some before) head next)
+      → IsUnlinked k p before next q (lone_queue (cond (is_some before) head next)
       (cond (is_some next) tail before) (n - 1) k p)
   taken-more before next some =
       record {
@@ -303,7 +303,7 @@ module _ (k : Bool) (p n : ℕ) (head tail : Option ℕ) (q : Queue) (within : p
           (n - 1) k p)
       left = lone-queue k p (n - 1) _ _ within
 
-      counts : (i : ℕ) → i < most_priority → (t : Bool) → (p == i) ≡ t
+      counts : (i : ℕ) → i < max_priority → (t : Bool) → (p == i) ≡ t
           → cond t (n - 1) 0
           ≡ cond t (slice_index (side_of k q).counts p - 1) (slice_index (side_of k q).counts i)
       counts i lt true e = ap (λ m. m - 1) (sym own-count)
@@ -318,7 +318,7 @@ module _ (k : Bool) (p n : ℕ) (head tail : Option ℕ) (q : Queue) (within : p
 
   -- a node is put at the end of the chain
   pub put-more : (m t : ℕ) → tail ≡ Some t
-      → IsPut k p m tail q (lone_queue head (Some m) (n + 1) k p)
+      → IsAppended k p m tail q (lone_queue head (Some m) (n + 1) k p)
   put-more m t there =
       record {
         len = ap (λ x. x + 1) (sym is.len);
@@ -343,7 +343,7 @@ module _ (k : Bool) (p n : ℕ) (head tail : Option ℕ) (q : Queue) (within : p
       more : IsLone k p head (Some m) (n + 1) (lone_queue head (Some m) (n + 1) k p)
       more = lone-queue k p (n + 1) head (Some m) within
 
-      counts : (i : ℕ) → i < most_priority → (b : Bool) → (p == i) ≡ b
+      counts : (i : ℕ) → i < max_priority → (b : Bool) → (p == i) ≡ b
           → cond b (n + 1) 0
           ≡ cond b (slice_index (side_of k q).counts p + 1) (slice_index (side_of k q).counts i)
       counts i lt true e = ap (λ x. x + 1) (sym own-count)
@@ -366,17 +366,17 @@ module _ (k : Bool) (p n : ℕ) (head tail : Option ℕ) (q : Queue) (within : p
             beside = λ l lower. beside l lower (either l k);
           }
         where
-          above : (l : Bool) (i : ℕ) → i < most_priority → p < i → (l ≡ k) ⊎ (l ≡ not k)
+          above : (l : Bool) (i : ℕ) → i < max_priority → p < i → (l ≡ k) ⊎ (l ≡ not k)
               → slice_index (side_of l q).counts i ≡ 0
           above l i lt up (inl e) =
               subst (λ m. slice_index (side_of m q).counts i ≡ 0) (sym e)
-              (apart i lt (λ s. omega (arith, up, s)))
+              (disjoint i lt (λ s. omega (arith, up, s)))
           above l i lt up (inr e) =
               subst (λ m. slice_index (side_of m q).counts i ≡ 0) (sym e) (is.other i lt).count
 
-          beside : (l : Bool) → rank l < rank k → (l ≡ k) ⊎ (l ≡ not k)
+          beside : (l : Bool) → kind_rank l < kind_rank k → (l ≡ k) ⊎ (l ≡ not k)
               → slice_index (side_of l q).counts p ≡ 0
           beside l lower (inl e) =
-              let same = ap rank e in absurd (omega (arith, lower, same))
+              let same = ap kind_rank e in absurd (omega (arith, lower, same))
           beside l lower (inr e) =
               subst (λ m. slice_index (side_of m q).counts p ≡ 0) (sym e) (is.other p within).count

@@ -2,20 +2,20 @@
 use Rattle.std.proofs.Common.{◌≡◌, ℕ, ◌==◌, ◌≤◌, ◌<◌, Bool, true, false, cond, Option, None, ◌≢◌}
 use Rattle.std.proofs.Common.{inl, inr, refl, sym, ap, ◌∙◌, arith}
 use Rattle.std.proofs.lemmas.Bool.Decides.{nat_tests}
-use Rattle.pt_types.specs.Limits.{most_priority}
+use Rattle.pt_types.specs.Limits.{max_priority}
 use Rattle.pt_chains.specs.declared.sides.Queue.{Queue}
 use Rattle.pt_chains.specs.Chains.{IsFirstWriter, HasWriterFrom}
 use Rattle.pt_chains.specs.Boxes.{IsLone}
-use Rattle.pt_chains.proofs.LoneLemmas.{apart, own-count, own-head}
+use Rattle.pt_chains.proofs.LoneLemmas.{disjoint, own-count, own-head}
 
-module _ (p n : ℕ) (head tail : Option ℕ) (q : Queue) (within : p < most_priority) where
+module _ (p n : ℕ) (head tail : Option ℕ) (q : Queue) (within : p < max_priority) where
   pub first-lone-writer : n ≢ 0 → IsLone true p head tail n q → IsFirstWriter q head
   first-lone-writer waits is =
       inl (
         p,
         within,
         λ z. waits (sym (own-count true p n head tail q within is) ∙ z),
-        λ i lt up. apart true p n head tail q within is i lt (λ s. omega (arith, up, s)),
+        λ i lt up. disjoint true p n head tail q within is i lt (λ s. omega (arith, up, s)),
         sym (own-head true p n head tail q within is),
       )
 

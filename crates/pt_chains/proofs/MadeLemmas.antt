@@ -6,13 +6,13 @@ use Rattle.std.specs.Map.{lookup}
 use Rattle.std.specs.List.{AllByRecursion as Each}
 use Rattle.std.proofs.lemmas.Bool.Decides.{nat_tests}
 use Rattle.std.proofs.lemmas.List.{nil_from_length}
-use Rattle.pt_types.specs.Limits.{most_priority}
+use Rattle.pt_types.specs.Limits.{max_priority}
 use Rattle.pt_waitq.specs.declared.waiter.Waiter.{Waiter}
 use Rattle.pt_chains.specs.declared.nodes.Node.{Node}
 use Rattle.pt_chains.specs.declared.sides.Queue.{Queue}
-use Rattle.pt_waitq.specs.Waits.{is_listed, queue_of, AllStand}
+use Rattle.pt_waitq.specs.Waits.{is_listed, queue_of, AllQueued}
 use Rattle.pt_chains.specs.Chains.{numbers, first_in, last_in, side_of, IsChain, chain_of, nodes_of}
-use Rattle.pt_chains.specs.Chains.{next_in, before_in, index_of, waiting_by, AreChains, HasNone}
+use Rattle.pt_chains.specs.Chains.{next_in, before_in, index_of, queued_waiters, AreChains, HasNone}
 use Rattle.pt_chains.specs.Chains.{HasNoWaiter}
 use Rattle.pt_chains.specs.Boxes.{AreBoxes}
 use Rattle.pt_waitq.proofs.ChangeLemmas.{stand-more, stand-fewer}
@@ -33,24 +33,24 @@ pub made-absent : (homes : List (ℕ × ℕ)) (nodes : List (Option Node)) (queu
     (es : List (ℕ × Waiter)) (o : ℕ) → AreChains homes nodes queues es
     → lookup (nat_eq o) queues ≡ None → Each (λ e. (e.0 == o) ≡ false) es
 made-absent homes nodes queues es o a none =
-    unmade-none o (numbers queues) es a.stand.made (listed-lookup o queues ∙ ap is_some none)
+    unmade-none o (numbers queues) es a.queued.is_queue (listed-lookup o queues ∙ ap is_some none)
 
 -- no client and no queue
 pub chains-none : (homes : List (ℕ × ℕ)) (nodes : List (Option Node)) (queues : List (ℕ × Queue))
     (log : List (Option ℕ × Waiter)) → homes ≡ [] → nodes ≡ [] → queues ≡ [] → log ≡ []
-    → AreChains homes nodes queues (waiting_by log)
+    → AreChains homes nodes queues (queued_waiters log)
 chains-none homes nodes queues log h n q l =
-    subst (λ x. AreChains x nodes queues (waiting_by log)) (sym h)
-    (subst (λ x. AreChains [] x queues (waiting_by log)) (sym n)
-    (subst (λ x. AreChains [] [] x (waiting_by log)) (sym q)
-    (subst (λ x. AreChains [] [] [] (waiting_by x)) (sym l) (record {
-      stand = record { once = tt; made = tt };
+    subst (λ x. AreChains x nodes queues (queued_waiters log)) (sym h)
+    (subst (λ x. AreChains [] x queues (queued_waiters log)) (sym n)
+    (subst (λ x. AreChains [] [] x (queued_waiters log)) (sym q)
+    (subst (λ x. AreChains [] [] [] (queued_waiters x)) (sym l) (record {
+      queued = record { once = tt; is_queue = tt };
       homed =
           record {
             there = λ c m e. absurd (cc e);
-            apart = λ c d m e f. absurd (cc e);
+            disjoint = λ c d m e f. absurd (cc e);
             own = λ m c e. absurd (cc e);
-            few = omega arith;
+            bounded = omega arith;
           };
       own = λ c. refl;
       levels = tt;
@@ -61,11 +61,12 @@ chains-none homes nodes queues log h n q l =
 
 pub boxes-none : (homes : List (ℕ × ℕ)) (queues : List (ℕ × Queue))
     (log : List (Option ℕ × Waiter)) (spares room : ℕ) → homes ≡ [] → log ≡ [] → spares ≡ 0
-    → AreBoxes (length homes) (length (numbers queues)) (waiting_by log) spares room 0
+    → AreBoxes (length homes) (length (numbers queues)) (queued_waiters log) spares room 0
 boxes-none homes queues log spares room h l s =
-    subst (λ x. AreBoxes (length x) (length (numbers queues)) (waiting_by log) spares room 0) (sym
+    subst (λ x. AreBoxes (length x) (length (numbers queues)) (queued_waiters log) spares room 0)
+    (sym
     h)
-    (subst (λ x. AreBoxes 0 (length (numbers queues)) (waiting_by x) spares room 0) (sym l)
+    (subst (λ x. AreBoxes 0 (length (numbers queues)) (queued_waiters x) spares room 0) (sym l)
     (record { count = omega (arith, s); enough = omega arith; fit = omega arith }))
 
 module _ (homes : List (ℕ × ℕ)) (nodes : List (Option Node)) (queues queues' : List (ℕ × Queue))
@@ -75,13 +76,13 @@ module _ (homes : List (ℕ × ℕ)) (nodes : List (Option Node)) (queues queues
     (others : (x : ℕ) → (o == x) ≡ false
     → lookup (nat_eq x) queues' ≡ lookup (nat_eq x) queues)
     (new : (q : Queue) → lookup (nat_eq o) queues' ≡ Some q → HasNone q) where
-  pub made-stand : AllStand (numbers queues') es
+  pub made-stand : AllQueued (numbers queues') es
   made-stand = go b listed
     where
       go : (t : Bool) → numbers queues' ≡ cond t (numbers queues ++ o ∷ []) (numbers queues)
-          → AllStand (numbers queues') es
-      go true e = stand-more (numbers queues) (numbers queues') o es a.stand e
-      go false e = subst (λ os. AllStand os es) (sym e) a.stand
+          → AllQueued (numbers queues') es
+      go true e = stand-more (numbers queues) (numbers queues') o es a.queued e
+      go false e = subst (λ os. AllQueued os es) (sym e) a.queued
 
   made-len : (x : ℕ) (q : Queue) (t : Bool) → (o == x) ≡ t → lookup (nat_eq x) queues' ≡ Some q
       → q.len ≡ length (queue_of x es)
@@ -93,7 +94,7 @@ module _ (homes : List (ℕ × ℕ)) (nodes : List (Option Node)) (queues queues
   made-len x q false e h = a.len x q (sym (others x e) ∙ h)
 
   made-chain : (x : ℕ) (q : Queue) (t : Bool) → (o == x) ≡ t → lookup (nat_eq x) queues' ≡ Some q
-      → (k : Bool) (p : ℕ) → p < most_priority
+      → (k : Bool) (p : ℕ) → p < max_priority
       → IsChain (next_in nodes) (before_in nodes) (side_of k q) p
       (nodes_of (index_of homes) (chain_of x k (p + 1) es))
   made-chain x q true e h k p lt =
@@ -113,7 +114,7 @@ module _ (homes : List (ℕ × ℕ)) (nodes : List (Option Node)) (queues queues
   pub chains-made : AreChains homes nodes queues' es
   chains-made =
       record {
-        stand = made-stand;
+        queued = made-stand;
         homed = a.homed;
         own = a.own;
         levels = a.levels;
@@ -140,7 +141,7 @@ empty-none homes nodes queues es a o empty q there =
     none : HasNoWaiter q
     none = no-waiter homes nodes queues es a o q there len
 
-    gone : (k : Bool) (p : ℕ) → p < most_priority
+    gone : (k : Bool) (p : ℕ) → p < max_priority
         → nodes_of (index_of homes) (chain_of o k (p + 1) es) ≡ []
     gone k p lt = nil_from_length _ (sym (a.chains o q there k p lt).count ∙ none k p lt)
 
@@ -159,9 +160,9 @@ module _ (homes : List (ℕ × ℕ)) (nodes : List (Option Node)) (queues queues
       go true = refl
       go false = sym (listed-lookup x queues)
 
-  pub discard-stand : AllStand (numbers queues') es
+  pub discard-stand : AllQueued (numbers queues') es
   discard-stand =
-      stand-fewer (numbers queues) (numbers queues') o es a.stand discard-made empty
+      stand-fewer (numbers queues) (numbers queues') o es a.queued discard-made empty
 
   left : (x : ℕ) (q : Queue) → lookup (nat_eq x) queues' ≡ Some q
       → lookup (nat_eq x) queues ≡ Some q
@@ -175,7 +176,7 @@ module _ (homes : List (ℕ × ℕ)) (nodes : List (Option Node)) (queues queues
   pub chains-discarded : AreChains homes nodes queues' es
   chains-discarded =
       record {
-        stand = discard-stand;
+        queued = discard-stand;
         homed = a.homed;
         own = a.own;
         levels = a.levels;

@@ -12,20 +12,20 @@ use Rattle.pt_waitq.specs.Waits.{is_listed}
 use Rattle.pt_waitq.specs.ListLemmas.{any-append, any-filter, any-without, filter-rest}
 use Rattle.pt_chains.specs.Chains.{numbers, Unique}
 use Rattle.pt_chains.specs.Boxes.{no_queue}
-use Rattle.pt_chains.specs.Opened.{with_made, made_from, made_by, queue_at, queues_by, is_open}
-use Rattle.pt_chains.specs.Opened.{AreQueues}
-use Rattle.pt_chains.proofs.HomeLemmas.{length-more}
+use Rattle.pt_chains.specs.OpenQueues.{with_existing, existing_from, existing_by, queue_at, queues_by, is_open}
+use Rattle.pt_chains.specs.OpenQueues.{AreQueues}
+use Rattle.pt_chains.proofs.NodeIndexLemmas.{length-more}
 use Rattle.pt_chains.proofs.InsertLemmas.{no-more, length-numbers}
 use Rattle.pt_chains.proofs.ChainLemmas.{listed-lookup, not-listed, some_same}
 use Rattle.pt_chains.proofs.LinkLemmas.{eq_turned}
 
 made_from-more : (os : List ℕ) (log : List (Bool × ℕ)) (a : Bool × ℕ)
-    → made_from os (log ++ a ∷ []) ≡ with_made (made_from os log) a.0 a.1
+    → existing_from os (log ++ a ∷ []) ≡ with_existing (existing_from os log) a.0 a.1
 made_from-more os [] a = refl
-made_from-more os (b ∷ log) a = made_from-more (with_made os b.0 b.1) log a
+made_from-more os (b ∷ log) a = made_from-more (with_existing os b.0 b.1) log a
 
 pub made-more : (log : List (Bool × ℕ)) (a : Bool × ℕ)
-    → made_by (log ++ a ∷ []) ≡ with_made (made_by log) a.0 a.1
+    → existing_by (log ++ a ∷ []) ≡ with_existing (existing_by log) a.0 a.1
 made-more log a = made_from-more [] log a
 
 pub numbers-by : (os : List ℕ) (rows : List (ℕ × Queue)) → numbers (queues_by os rows) ≡ os
@@ -69,10 +69,10 @@ said-by os rows o q h = go (is_listed o os) (sym (lookup-by os rows o) ∙ h)
     go false e = cc
 
 -- a queue that does not exist has no row
-pub unmade-by : (os : List ℕ) (rows : List (ℕ × Queue)) (spare : ℕ) (opened : List Bool) (len o : ℕ)
-    → AreQueues os rows spare opened len → lookup (nat_eq o) (queues_by os rows) ≡ None
+pub unmade-by : (os : List ℕ) (rows : List (ℕ × Queue)) (spare : ℕ) (open_flags : List Bool) (len o : ℕ)
+    → AreQueues os rows spare open_flags len → lookup (nat_eq o) (queues_by os rows) ≡ None
     → lookup (nat_eq o) rows ≡ None
-unmade-by os rows spare opened len o a h =
+unmade-by os rows spare open_flags len o a h =
     not-listed rows o (go (is_listed o (numbers rows)) refl)
   where
     none : is_listed o os ≡ false
@@ -81,14 +81,14 @@ unmade-by os rows spare opened len o a h =
         ∙ (listed-lookup o (queues_by os rows) ∙ ap is_some h)
 
     go : (b : Bool) → is_listed o (numbers rows) ≡ b → b ≡ false
-    go true e = absurd (false≢true (sym none ∙ a.made o e))
+    go true e = absurd (false≢true (sym none ∙ a.is_queue o e))
     go false e = refl
 
 -- a number that is not noted has no row
-pub unnoted-none : (os : List ℕ) (rows : List (ℕ × Queue)) (spare : ℕ) (opened : List Bool)
-    (len o : ℕ) → AreQueues os rows spare opened len → is_open opened o ≡ false
+pub unnoted-none : (os : List ℕ) (rows : List (ℕ × Queue)) (spare : ℕ) (open_flags : List Bool)
+    (len o : ℕ) → AreQueues os rows spare open_flags len → is_open open_flags o ≡ false
     → lookup (nat_eq o) rows ≡ None
-unnoted-none os rows spare opened len o a h =
+unnoted-none os rows spare open_flags len o a h =
     not-listed rows o (go (is_listed o (numbers rows)) refl)
   where
     go : (b : Bool) → is_listed o (numbers rows) ≡ b → b ≡ false
@@ -112,9 +112,9 @@ told P os rows o q h none some =
 pub told-row : (P : Queue → Type 0) (os : List ℕ) (rows : List (ℕ × Queue)) (o : ℕ)
     → is_listed o os ≡ true → IfSome (lookup (nat_eq o) (queues_by os rows)) P
     → P (queue_at rows o)
-told-row P os rows o made h =
+told-row P os rows o is_queue h =
     subst (λ f. IfSome f P)
-    (lookup-by os rows o ∙ ap (λ b. cond b (Some (queue_at rows o)) None) made) h
+    (lookup-by os rows o ∙ ap (λ b. cond b (Some (queue_at rows o)) None) is_queue) h
 
 -- numbers that differ from each other occur once
 pub unique-numbers : {X : Type 0} (es : List (ℕ × X))
@@ -133,10 +133,10 @@ unique-numbers es d = go (numbers es) d
     go (n ∷ ns) d = (none n ns d.0, go ns d.1)
 
 -- there is room for a row of a queue that has none
-pub room-by : (os : List ℕ) (rows : List (ℕ × Queue)) (spare : ℕ) (opened : List Bool) (len o : ℕ)
-    → AreQueues os rows spare opened len → is_listed o os ≡ true
+pub room-by : (os : List ℕ) (rows : List (ℕ × Queue)) (spare : ℕ) (open_flags : List Bool) (len o : ℕ)
+    → AreQueues os rows spare open_flags len → is_listed o os ≡ true
     → lookup (nat_eq o) rows ≡ None → Unique (numbers rows) → 0 < spare
-room-by os rows spare opened len o a made none once =
+room-by os rows spare open_flags len o a is_queue none once =
     let most = no-more (o ∷ numbers rows) os (listed-lookup o rows ∙ ap is_some none, once)
     (λ n i. go n (o == n) refl i) in
     omega (arith, most, length-numbers rows, a.count, a.room)
@@ -145,25 +145,25 @@ room-by os rows spare opened len o a made none once =
         → is_listed n os ≡ true
     go n true t i =
         let same : o ≡ n = grind (arith, nat_tests) in
-        ap (λ k. is_listed k os) (sym same) ∙ made
-    go n false t i = a.made n i
+        ap (λ k. is_listed k os) (sym same) ∙ is_queue
+    go n false t i = a.is_queue n i
 
 -- rows of the same queues and of one more that exists
 pub queues-opened : (os : List ℕ) (rows rows' : List (ℕ × Queue)) (spare spare' : ℕ)
-    (opened opened' : List Bool) (len o : ℕ) → AreQueues os rows spare opened len
+    (open_flags open_flags' : List Bool) (len o : ℕ) → AreQueues os rows spare open_flags len
     → is_listed o os ≡ true
     → ((x : ℕ) → is_listed x (numbers rows') ≡ (is_listed x (numbers rows) || (o == x)))
-    → length rows + spare ≤ length rows' + spare' → is_open opened' o ≡ true
-    → ((x : ℕ) → is_open opened x ≡ true → is_open opened' x ≡ true)
-    → AreQueues os rows' spare' opened' len
-queues-opened os rows rows' spare spare' opened opened' len o a made listed more own kept =
+    → length rows + spare ≤ length rows' + spare' → is_open open_flags' o ≡ true
+    → ((x : ℕ) → is_open open_flags x ≡ true → is_open open_flags' x ≡ true)
+    → AreQueues os rows' spare' open_flags' len
+queues-opened os rows rows' spare spare' open_flags open_flags' len o a is_queue listed more own kept =
     record {
       once = a.once;
-      made = λ x i. was x (sym (listed x) ∙ i) (λ n. is_listed n os ≡ true) (a.made x) made;
-      noted = λ x i. was x (sym (listed x) ∙ i) (λ n. is_open opened' n ≡ true)
+      is_queue = λ x i. was x (sym (listed x) ∙ i) (λ n. is_listed n os ≡ true) (a.is_queue x) is_queue;
+      noted = λ x i. was x (sym (listed x) ∙ i) (λ n. is_open open_flags' n ≡ true)
           (λ j. kept x (a.noted x j)) own;
       count = a.count;
-      few = a.few;
+      bounded = a.bounded;
       room = let room = a.room in omega (arith, room, more);
     }
   where
@@ -180,15 +180,15 @@ queues-opened os rows rows' spare spare' opened opened' len o a made listed more
 
 -- rows of the same numbers
 pub queues-set : (os : List ℕ) (rows rows' : List (ℕ × Queue)) (spare spare' : ℕ)
-    (opened : List Bool) (len : ℕ) → AreQueues os rows spare opened len
-    → numbers rows' ≡ numbers rows → spare ≤ spare' → AreQueues os rows' spare' opened len
-queues-set os rows rows' spare spare' opened len a same still =
+    (open_flags : List Bool) (len : ℕ) → AreQueues os rows spare open_flags len
+    → numbers rows' ≡ numbers rows → spare ≤ spare' → AreQueues os rows' spare' open_flags len
+queues-set os rows rows' spare spare' open_flags len a same still =
     record {
       once = a.once;
-      made = λ x i. a.made x (sym (ap (is_listed x) same) ∙ i);
+      is_queue = λ x i. a.is_queue x (sym (ap (is_listed x) same) ∙ i);
       noted = λ x i. a.noted x (sym (ap (is_listed x) same) ∙ i);
       count = a.count;
-      few = a.few;
+      bounded = a.bounded;
       room =
           let room = a.room in
           omega (arith, room, still, ap length same, length-numbers rows, length-numbers rows');
@@ -196,16 +196,16 @@ queues-set os rows rows' spare spare' opened len a same still =
 
 -- rows of the same numbers, and more room
 pub queues-kept : (os : List ℕ) (rows rows' : List (ℕ × Queue)) (spare spare' : ℕ)
-    (opened : List Bool) (len : ℕ) → AreQueues os rows spare opened len
+    (open_flags : List Bool) (len : ℕ) → AreQueues os rows spare open_flags len
     → ((x : ℕ) → lookup (nat_eq x) rows' ≡ lookup (nat_eq x) rows) → length rows' ≡ length rows
-    → spare ≤ spare' → AreQueues os rows' spare' opened len
-queues-kept os rows rows' spare spare' opened len a same count still =
+    → spare ≤ spare' → AreQueues os rows' spare' open_flags len
+queues-kept os rows rows' spare spare' open_flags len a same count still =
     record {
       once = a.once;
-      made = λ x i. a.made x (was x ∙ i);
+      is_queue = λ x i. a.is_queue x (was x ∙ i);
       noted = λ x i. a.noted x (was x ∙ i);
       count = a.count;
-      few = a.few;
+      bounded = a.bounded;
       room = let room = a.room in omega (arith, room, still, count);
     }
   where
@@ -232,15 +232,15 @@ others-by os rows rows' o same x other =
 
 -- no queue exists
 pub queues-none : (log : List (Bool × ℕ)) (rows : List (ℕ × Queue)) (spare : ℕ)
-    (opened : List Bool) → log ≡ [] → rows ≡ [] → AreQueues (made_by log) rows spare opened 0
-queues-none log rows spare opened none empty =
-    subst (λ l. AreQueues (made_by l) rows spare opened 0) (sym none)
-    (subst (λ rs. AreQueues [] rs spare opened 0) (sym empty) (record {
+    (open_flags : List Bool) → log ≡ [] → rows ≡ [] → AreQueues (existing_by log) rows spare open_flags 0
+queues-none log rows spare open_flags none empty =
+    subst (λ l. AreQueues (existing_by l) rows spare open_flags 0) (sym none)
+    (subst (λ rs. AreQueues [] rs spare open_flags 0) (sym empty) (record {
       once = tt;
-      made = λ o e. absurd (false≢true e);
+      is_queue = λ o e. absurd (false≢true e);
       noted = λ o e. absurd (false≢true e);
       count = refl;
-      few = omega arith;
+      bounded = omega arith;
       room = omega arith;
     }))
 
@@ -265,8 +265,8 @@ unique-last o (x ∷ os) u n = go (x == o) refl n (λ h. unique-last o os u.1 h)
         (listed-last o x os ∙ rw (u.0, far) refl, ih h)
 
 -- one more queue is made, which has no row
-module _ (os : List ℕ) (rows : List (ℕ × Queue)) (spare spare' : ℕ) (opened : List Bool) (len o : ℕ)
-    (a : AreQueues os rows spare opened len)
+module _ (os : List ℕ) (rows : List (ℕ × Queue)) (spare spare' : ℕ) (open_flags : List Bool) (len o : ℕ)
+    (a : AreQueues os rows spare open_flags len)
     (new : lookup (nat_eq o) (queues_by os rows) ≡ None) where
   none : is_listed o os ≡ false
   none =
@@ -274,14 +274,14 @@ module _ (os : List ℕ) (rows : List (ℕ × Queue)) (spare spare' : ℕ) (open
       ∙ (listed-lookup o (queues_by os rows) ∙ ap is_some new)
 
   pub queues-made : len + 1 < 2 ^ 32 → len + 1 ≤ length rows + spare'
-      → AreQueues (os ++ o ∷ []) rows spare' opened (len + 1)
-  queues-made few room =
+      → AreQueues (os ++ o ∷ []) rows spare' open_flags (len + 1)
+  queues-made bounded room =
       record {
         once = unique-last o os a.once none;
-        made = λ x i. listed-last o x os ∙ ap (λ b. b || (o == x)) (a.made x i);
+        is_queue = λ x i. listed-last o x os ∙ ap (λ b. b || (o == x)) (a.is_queue x i);
         noted = a.noted;
         count = omega (arith, a.count, length-more os o);
-        few = few;
+        bounded = bounded;
         room = room;
       }
 
@@ -299,7 +299,7 @@ module _ (os : List ℕ) (rows : List (ℕ × Queue)) (spare spare' : ℕ) (open
   pub queue-made : (q : Queue) → lookup (nat_eq o) (queues_by (os ++ o ∷ []) rows) ≡ Some q
       → no_queue ≡ q
   queue-made q h =
-      ap (λ f. unwrap_or f no_queue) (sym (unmade-by os rows spare opened len o a new))
+      ap (λ f. unwrap_or f no_queue) (sym (unmade-by os rows spare open_flags len o a new))
       ∙ said-by (os ++ o ∷ []) rows o q h
 
 once-less : (o : ℕ) (os : List ℕ) → Unique os → is_listed o os ≡ true
@@ -337,8 +337,8 @@ unique-less o (x ∷ os) u = go (not (x == o)) (unique-less o os u.1)
     go false ih = ih
 
 -- a queue is discarded, and its row if it has one
-module _ (os : List ℕ) (rows rows' : List (ℕ × Queue)) (spare spare' : ℕ) (opened : List Bool)
-    (len o : ℕ) (a : AreQueues os rows spare opened len)
+module _ (os : List ℕ) (rows rows' : List (ℕ × Queue)) (spare spare' : ℕ) (open_flags : List Bool)
+    (len o : ℕ) (a : AreQueues os rows spare open_flags len)
     (there : IsSome (lookup (nat_eq o) (queues_by os rows)))
     (now : (x : ℕ) → lookup (nat_eq x) rows' ≡ cond (o == x) None (lookup (nat_eq x) rows)) where
   -- the others
@@ -361,16 +361,16 @@ module _ (os : List ℕ) (rows rows' : List (ℕ × Queue)) (spare spare' : ℕ)
       go false t h = (t, listed-lookup x rows ∙ h)
 
   pub queues-left : length rows + spare ≤ length rows' + spare' + 1
-      → AreQueues left rows' spare' opened (len - 1)
+      → AreQueues left rows' spare' open_flags (len - 1)
   queues-left more =
       record {
         once = unique-less o os a.once;
-        made = λ x i.
+        is_queue = λ x i.
             let w = was x i in
-            listed-left x ∙ rw (w.0, a.made x w.1) refl;
+            listed-left x ∙ rw (w.0, a.is_queue x w.1) refl;
         noted = λ x i. a.noted x (was x i).1;
         count = omega (arith, a.count, fewer);
-        few = let few = a.few in omega (arith, few);
+        bounded = let bounded = a.bounded in omega (arith, bounded);
         room = let room = a.room in omega (arith, room, more, a.count, fewer);
       }
 

@@ -11,7 +11,7 @@ use Rattle.pt_chains.specs.declared.sides.Queue.{Queue}
 use Rattle.pt_waitq.specs.Waits.{is_listed}
 use Rattle.pt_chains.specs.Chains.{numbers, IsFirst, IsFirstWriter, HasWriterFrom}
 use Rattle.pt_chains.specs.Boxes.{no_queue}
-use Rattle.pt_chains.specs.Opened.{queue_at, queues_by, is_open, AreQueues}
+use Rattle.pt_chains.specs.OpenQueues.{queue_at, queues_by, is_open, AreQueues}
 use Rattle.pt_chains.proofs.ChainLemmas.{listed-lookup, is-listed}
 use Rattle.pt_chains.proofs.StepLemmas.{some-if}
 use Rattle.pt_chains.proofs.BoxLemmas.{none-without}
@@ -21,8 +21,8 @@ none_some : {X : Type 0} (f : Option X) (x : X) → f ≡ None → f ≡ Some x 
 none_some f x n e = cc
 
 -- what is read of a queue is read from its row, or from none
-module _ (os : List ℕ) (rows : List (ℕ × Queue)) (spare : ℕ) (opened : List Bool) (len o : ℕ)
-    (a : AreQueues os rows spare opened len) where
+module _ (os : List ℕ) (rows : List (ℕ × Queue)) (spare : ℕ) (open_flags : List Bool) (len o : ℕ)
+    (a : AreQueues os rows spare open_flags len) where
   pub first-by : (head : Option ℕ) → (lookup (nat_eq o) rows ≡ None → head ≡ None)
       → ((r : Queue) → lookup (nat_eq o) rows ≡ Some r → IsFirst r head)
       → (q : Queue) → lookup (nat_eq o) (queues_by os rows) ≡ Some q → IsFirst q head
@@ -48,11 +48,11 @@ module _ (os : List ℕ) (rows : List (ℕ × Queue)) (spare : ℕ) (opened : Li
       (λ t. absurd (false≢true t), λ w. absurd (w.3 (none-without.counts true w.0 w.2)))) some
 
   -- a number that is not noted has no row to read
-  pub unnoted : {R : Type 0} → is_open opened o ≡ false → (r : Queue)
+  pub unnoted : {R : Type 0} → is_open open_flags o ≡ false → (r : Queue)
       → lookup (nat_eq o) rows ≡ Some r → R
   unnoted n r e =
       absurd (none_some (lookup (nat_eq o) rows) r
-      (unnoted-none os rows spare opened len o a n) e)
+      (unnoted-none os rows spare open_flags len o a n) e)
 
   pub len-by : unwrap_or (option_map (λ q. q.len) (lookup (nat_eq o) rows)) 0
       ≡ unwrap_or (option_map (λ q. q.len) (lookup (nat_eq o) (queues_by os rows))) 0
@@ -69,17 +69,17 @@ module _ (os : List ℕ) (rows : List (ℕ × Queue)) (spare : ℕ) (opened : Li
       go (Some r) true e t = rw (e, t) refl
       go (Some r) false e t =
           let there = listed-lookup o rows ∙ ap is_some e in
-          absurd (false≢true (sym t ∙ a.made o there))
+          absurd (false≢true (sym t ∙ a.is_queue o there))
 
 -- what holds for a queue holds for its row
 pub row-if : (P : Queue → Type 0) (os : List ℕ) (rows rows' qs : List (ℕ × Queue)) (o : ℕ)
     → is_listed o os ≡ true → queues_by os rows ≡ qs → IfSome (lookup (nat_eq o) qs) P
     → queue_at rows' o ≡ queue_at rows o → IfSome (lookup (nat_eq o) rows') P
-row-if P os rows rows' qs o made view h same =
+row-if P os rows rows' qs o is_queue view h same =
     some-if P (lookup (nat_eq o) rows') (λ r e.
     let at : queue_at rows' o ≡ r = ap (λ f. unwrap_or f no_queue) e in
     subst P (sym same ∙ at)
-    (told-row P os rows o made (subst (λ xs. IfSome (lookup (nat_eq o) xs) P) (sym view) h)))
+    (told-row P os rows o is_queue (subst (λ xs. IfSome (lookup (nat_eq o) xs) P) (sym view) h)))
 
 -- the chains of a queue are those of its row
 pub row-of : (os : List ℕ) (rows rows' : List (ℕ × Queue)) (o : ℕ) (q : Queue)
@@ -94,11 +94,11 @@ row-of os rows rows' o q there same h =
 pub row-waits : (os : List ℕ) (rows qs : List (ℕ × Queue)) (o : ℕ) → is_listed o os ≡ true
     → queues_by os rows ≡ qs → IfSome (lookup (nat_eq o) qs) (λ q. 1 ≤ q.len)
     → IsSome (lookup (nat_eq o) rows)
-row-waits os rows qs o made view h = go (lookup (nat_eq o) rows) refl
+row-waits os rows qs o is_queue view h = go (lookup (nat_eq o) rows) refl
   where
     some : 1 ≤ (queue_at rows o).len
     some =
-        told-row (λ q. 1 ≤ q.len) os rows o made
+        told-row (λ q. 1 ≤ q.len) os rows o is_queue
         (subst (λ xs. IfSome (lookup (nat_eq o) xs) (λ q. 1 ≤ q.len)) (sym view) h)
 
     go : (f : Option Queue) → lookup (nat_eq o) rows ≡ f → IsSome (lookup (nat_eq o) rows)

@@ -6,24 +6,24 @@ use Rattle.std.specs.Prelude.{slice_index}
 use Rattle.std.specs.Map.{lookup}
 use Rattle.std.proofs.lemmas.Bool.Decides.{nat_tests}
 use Rattle.std.proofs.lemmas.Bool.{false≢true, and_parts}
-use Rattle.pt_types.specs.Limits.{most_priority}
+use Rattle.pt_types.specs.Limits.{max_priority}
 use Rattle.pt_waitq.specs.declared.waiter.Waiter.{Waiter}
 use Rattle.pt_chains.specs.declared.nodes.Node.{Node}
 use Rattle.pt_chains.specs.declared.sides.Side.{Side}
 use Rattle.pt_chains.specs.declared.sides.Queue.{Queue}
-use Rattle.pt_waitq.specs.Queues.{In, IsLatest, insert_in_order}
+use Rattle.pt_waitq.specs.Queues.{In, HasLatestArrival, insert_in_order}
 use Rattle.pt_waitq.specs.QueueLemmas.{queue_of-more, length-insert}
-use Rattle.pt_waitq.specs.Waits.{is_listed, has_waiter, queue_of, AllStand, IsOnce}
+use Rattle.pt_waitq.specs.Waits.{is_listed, has_waiter, queue_of, AllQueued, IsOnce}
 use Rattle.pt_waitq.specs.ListLemmas.{Each-append}
 use Rattle.pt_waitq.specs.WaitingLemmas.{one_entry}
 use Rattle.pt_chains.specs.Chains.{numbers, is_at, last_in, side_of, IsChain, is_kind, chain_of}
-use Rattle.pt_chains.specs.Chains.{in_chain, nodes_of, next_in, before_in, entry_in, home_of}
-use Rattle.pt_chains.specs.Chains.{index_of, entry_of, AreHomes, AreChains, IsPut}
+use Rattle.pt_chains.specs.Chains.{in_chain, nodes_of, next_in, before_in, entry_in, node_index_of}
+use Rattle.pt_chains.specs.Chains.{index_of, entry_of_client, AreNodeIndexes, AreChains, IsAppended}
 use Rattle.pt_chains.proofs.LinkLemmas.{eq_true, last_apart}
 use Rattle.pt_chains.proofs.EndLemmas.{chain-append, chain-kept}
 use Rattle.pt_chains.proofs.SortedLemmas.{sorted-more}
 use Rattle.pt_chains.proofs.ChainLemmas.{some_same, chain-member, index-apart, index-fresh}
-use Rattle.pt_chains.proofs.HomeLemmas.{entry-changed}
+use Rattle.pt_chains.proofs.NodeIndexLemmas.{entry-changed}
 use Rattle.pt_chains.proofs.InsertLemmas.{own-inserted, unique-chain, chain-other, chain-own}
 
 same-chain : (o x p r : ℕ) (k l : Bool) (d : ℕ × Waiter) (w : Waiter) → is_kind l p w ≡ true
@@ -38,14 +38,14 @@ pub other-chain : (f : ℕ → ℕ) (o x p r m : ℕ) (k l : Bool) (w : Waiter) 
     → is_kind l p w ≡ true → in_chain x k r (o, w) ≡ false
     → is_listed m (nodes_of f (chain_of x k r es)) ≡ true
     → is_listed m (nodes_of f (chain_of o l p es)) ≡ false
-other-chain f o x p r m k l w es once apart a b i = out _ refl
+other-chain f o x p r m k l w es once disjoint a b i = out _ refl
   where
     out : (t : Bool) → is_listed m (nodes_of f (chain_of o l p es)) ≡ t → t ≡ false
     out false h = refl
     out true h =
         let d = chain-member f (in_chain x k r) m es i in
         let e = chain-member f (in_chain o l p) m es h in
-        let one = apart d.0 e.0 d.1 e.1 (d.3 ∙ sym e.3) in
+        let one = disjoint d.0 e.0 d.1 e.1 (d.3 ∙ sym e.3) in
         let same = one_entry d.0 e.0 es once d.1 e.1 one in
         let both = ap (in_chain o l p) same ∙ e.2 in
         absurd (false≢true (sym b ∙ same-chain o x p r k l d.0 w a d.2 both))
@@ -69,7 +69,7 @@ kept-node new old n last u h m a b =
 
 module _ (f : ℕ → ℕ) (n : ℕ) (nodes nodes' : List (Option Node)) (es : List (ℕ × Waiter))
     (o p : ℕ) (w : Waiter) (side side' : Side) (its : f w.client ≡ n) (once : IsOnce es)
-    (apart : (d e : ℕ × Waiter) → In d es → In e es → f d.1.client ≡ f e.1.client
+    (disjoint : (d e : ℕ × Waiter) → In d es → In e es → f d.1.client ≡ f e.1.client
     → d.1.client ≡ e.1.client)
     (fresh : (d : ℕ × Waiter) → In d es → (n == f d.1.client) ≡ false)
     (kind : is_kind w.writer (p + 1) w ≡ true)
@@ -95,7 +95,7 @@ module _ (f : ℕ → ℕ) (n : ℕ) (nodes nodes' : List (Option Node)) (es : L
       (λ m i.
       let d = chain-member f (in_chain x k (r + 1)) m es i in
       let away = ap (λ j. n == j) (sym d.3) ∙ fresh d.0 d.1 in
-      let out = other-chain f o x (p + 1) (r + 1) m k w.writer w es once apart kind out i in
+      let out = other-chain f o x (p + 1) (r + 1) m k w.writer w es once disjoint kind out i in
       let last = ap (is_at m) whole.tail ∙ not-last m _ out in (
         kept-node (next_in nodes') (next_in nodes) n (slice_index_or side.tails p None) (Some n) hn
             m away last,
@@ -120,7 +120,7 @@ module _ (f : ℕ → ℕ) (n : ℕ) (nodes nodes' : List (Option Node)) (es : L
       ∙ (nodes-append f chain (o, w) ∙ ap (λ j. nodes_of f chain ++ j ∷ []) its)))
       (chain-append (next_in nodes) (before_in nodes) (next_in nodes') (before_in nodes') side
       side' p n _ hc ht hh hn hb (out _ refl)
-      (unique-chain f (in_chain o w.writer (p + 1)) es once apart) whole)
+      (unique-chain f (in_chain o w.writer (p + 1)) es once disjoint) whole)
     where
       out : (t : Bool) → is_listed n (nodes_of f (chain_of o w.writer (p + 1) es)) ≡ t
           → t ≡ false
@@ -160,12 +160,12 @@ plus_one m n e = omega (arith, e)
 module _ (homes : List (ℕ × ℕ)) (nodes nodes' : List (Option Node))
     (queues queues' : List (ℕ × Queue)) (es : List (ℕ × Waiter)) (o p n : ℕ) (w : Waiter)
     (last : Option ℕ) (q0 q1 : Queue) (a : AreChains homes nodes queues es)
-    (none : has_waiter w.client es ≡ false) (home : home_of homes w.client ≡ Some n)
-    (its : index_of homes w.client ≡ n) (level : p + 1 ≡ w.prio) (within : p < most_priority)
+    (none : has_waiter w.client es ≡ false) (home : node_index_of homes w.client ≡ Some n)
+    (its : index_of homes w.client ≡ n) (level : p + 1 ≡ w.prio) (within : p < max_priority)
     (at : lookup (nat_eq o) queues ≡ Some q0)
     (rest : (x : ℕ) → lookup (nat_eq x) queues'
     ≡ cond (o == x) (Some q1) (lookup (nat_eq x) queues))
-    (put : IsPut w.writer p n last q0 q1)
+    (put : IsAppended w.writer p n last q0 q1)
     (next : (c : ℕ) → next_in nodes' c
     ≡ cond (n == c) None (cond (is_at c last) (Some n) (next_in nodes c)))
     (before : (c : ℕ) → before_in nodes' c ≡ cond (n == c) last (before_in nodes c)) where
@@ -204,10 +204,10 @@ module _ (homes : List (ℕ × ℕ)) (nodes nodes' : List (Option Node))
       (nodes_of (index_of homes) (chain_of x k (r + 1) (es ++ (o, w) ∷ [])))
   other =
       put-other (index_of homes) n nodes nodes' es o p w (side_of w.writer q0)
-      (side_of w.writer q1) its a.stand.once (index-apart homes nodes queues es a)
+      (side_of w.writer q1) its a.queued.once (index-apart homes nodes queues es a)
       (index-fresh homes nodes queues es a w.client n home none) (own-kind p w level) whole hn hb
 
-  level-own : (r : ℕ) → r < most_priority → (t : Bool) → (p == r) ≡ t → Whole o w.writer q1 r
+  level-own : (r : ℕ) → r < max_priority → (t : Bool) → (p == r) ≡ t → Whole o w.writer q1 r
   level-own r lt true e =
       let same : p ≡ r = grind (arith, nat_tests) in
       let count = slice_index side.counts p in
@@ -216,7 +216,7 @@ module _ (homes : List (ℕ × ℕ)) (nodes nodes' : List (Option Node))
       let own = eq_true p p refl in
       subst (Whole o w.writer q1) same
       (put-own (index_of homes) n nodes nodes' es o p w (side_of w.writer q0)
-      (side_of w.writer q1) its a.stand.once (index-apart homes nodes queues es a)
+      (side_of w.writer q1) its a.queued.once (index-apart homes nodes queues es a)
       (index-fresh homes nodes queues es a w.client n home none) (own-kind p w level) whole hn hb
       (put.counts p within ∙ ap (λ b. cond b (count + 1) count) own)
       (put.tails p within
@@ -233,7 +233,7 @@ module _ (homes : List (ℕ × ℕ)) (nodes nodes' : List (Option Node))
       ∙ ap (λ b. cond (b && ahead) (Some n) (slice_index_or side.heads r None)) e)
       (a.chains o q0 at w.writer r lt)
 
-  kinds : (r : ℕ) → r < most_priority → (l : Bool) → (l ≡ w.writer) ⊎ (l ≡ not w.writer)
+  kinds : (r : ℕ) → r < max_priority → (l : Bool) → (l ≡ w.writer) ⊎ (l ≡ not w.writer)
       → Whole o l q1 r
   kinds r lt l (inl e) = subst (λ b. Whole o b q1 r) (sym e) (level-own r lt (p == r) refl)
   kinds r lt l (inr e) =
@@ -245,7 +245,7 @@ module _ (homes : List (ℕ × ℕ)) (nodes nodes' : List (Option Node))
 
   -- all chains after a waiter is put in
   put-chains : (x : ℕ) (q : Queue) → lookup (nat_eq x) queues' ≡ Some q → (k : Bool) (r : ℕ)
-      → r < most_priority → Whole x k q r
+      → r < max_priority → Whole x k q r
   put-chains x q h k r lt = go (o == x) refl (sym (rest x) ∙ h)
     where
       go : (t : Bool) → (o == x) ≡ t → cond t (Some q1) (lookup (nat_eq x) queues) ≡ Some q
@@ -258,10 +258,10 @@ module _ (homes : List (ℕ × ℕ)) (nodes nodes' : List (Option Node))
           other x r k (side_of k q) (side_of k q) (other-queue o x (r + 1) k w e) refl refl refl
           (a.chains x q g k r lt)
 
-  module _ (bounds : (1 ≤ w.prio) × (w.prio ≤ most_priority))
-      (stand : AllStand (numbers queues') (es ++ (o, w) ∷ []))
+  module _ (bounds : (1 ≤ w.prio) × (w.prio ≤ max_priority))
+      (queued : AllQueued (numbers queues') (es ++ (o, w) ∷ []))
       (entries : (m : ℕ) → entry_in nodes' m ≡ cond (n == m) (Some (o, w)) (entry_in nodes m))
-      (homed : AreHomes homes nodes') (latest : IsLatest w (queue_of o es)) where
+      (homed : AreNodeIndexes homes nodes') (latest : HasLatestArrival w (queue_of o es)) where
     len_in : (x : ℕ) (q : Queue) (t : Bool) → (o == x) ≡ t
         → cond t (Some q1) (lookup (nat_eq x) queues) ≡ Some q
         → q.len ≡ length (queue_of x (es ++ (o, w) ∷ []))
@@ -297,14 +297,14 @@ module _ (homes : List (ℕ × ℕ)) (nodes nodes' : List (Option Node))
     pub chains-put : AreChains homes nodes' queues' (es ++ (o, w) ∷ [])
     chains-put =
         record {
-          stand = stand;
+          queued = queued;
           homed = homed;
           own =
-              own-inserted (entry_of homes nodes) (entry_of homes nodes') o w es
+              own-inserted (entry_of_client homes nodes) (entry_of_client homes nodes') o w es
               (entry-changed homes nodes nodes' w.client n (Some (o, w)) a.homed home entries)
               a.own none;
           levels =
-              Each-append (λ (e : ℕ × Waiter). (1 ≤ e.1.prio) × (e.1.prio ≤ most_priority)) es
+              Each-append (λ (e : ℕ × Waiter). (1 ≤ e.1.prio) × (e.1.prio ≤ max_priority)) es
               ((o, w) ∷ []) a.levels (bounds, tt);
           len = λ x q h. len_in x q (o == x) refl (sym (rest x) ∙ h);
           sorted = λ x k r. order x k r (in_chain x k r (o, w)) refl;

@@ -11,23 +11,23 @@ use Rattle.pt_chains.specs.declared.sides.Queue.{Queue}
 use Rattle.pt_waitq.specs.Waits.{is_listed}
 use Rattle.pt_chains.specs.Chains.{numbers, Unique}
 use Rattle.pt_chains.specs.Boxes.{no_queue}
-use Rattle.pt_chains.specs.Opened.{queue_at}
-use Rattle.pt_chains.specs.Rows.{row_in, number_in, chains_in, rows_by, AreRows}
+use Rattle.pt_chains.specs.OpenQueues.{queue_at}
+use Rattle.pt_chains.specs.Rows.{row_in, row_number, chains_in, rows_by, AreRows}
 use Rattle.pt_chains.proofs.ChainLemmas.{some_same}
 use Rattle.pt_chains.proofs.ReadLemmas.{read-set}
 use Rattle.pt_chains.proofs.RowLemmas.{none_some, lookup-rows, listed-rows, other-slot}
 
 -- the row in a slot is written
 module _ (places : List (ℕ × ℕ)) (slots slots' : List (Option (ℕ × Queue))) (s : ℕ)
-    (a : AreRows places slots) (head : number_in slots' s ≡ number_in slots s)
+    (a : AreRows places slots) (head : row_number slots' s ≡ row_number slots s)
     (others : (t : ℕ) → t ≢ s → row_in slots' t ≡ row_in slots t) where
-  pub number-kept : (t : ℕ) → number_in slots' t ≡ number_in slots t
+  pub number-kept : (t : ℕ) → row_number slots' t ≡ row_number slots t
   number-kept t = go (t == s) refl
     where
-      go : (b : Bool) → (t == s) ≡ b → number_in slots' t ≡ number_in slots t
+      go : (b : Bool) → (t == s) ≡ b → row_number slots' t ≡ row_number slots t
       go true e =
           let same : t ≡ s = grind (arith, nat_tests) in
-          ap (number_in slots') same ∙ (head ∙ ap (number_in slots) (sym same))
+          ap (row_number slots') same ∙ (head ∙ ap (row_number slots) (sym same))
       go false e =
           ap (option_map (λ (r : ℕ × Queue). r.0))
           (others t (λ same. false≢true (sym e ∙ eq-eqb t s same)))
@@ -77,7 +77,7 @@ module _ (places : List (ℕ × ℕ)) (slots : List (Option (ℕ × Queue))) (s 
   chains-set =
       ap (λ f. unwrap_or (option_map (λ (r : ℕ × Queue). r.1) f) no_queue) set-here
 
-  head : number_in (slice_set slots s (Some (r.0, q))) s ≡ number_in slots s
+  head : row_number (slice_set slots s (Some (r.0, q))) s ≡ row_number slots s
   head =
       ap (option_map (λ (r : ℕ × Queue). r.0)) set-here
       ∙ sym (ap (option_map (λ (r : ℕ × Queue). r.0)) is)
@@ -104,26 +104,26 @@ module _ (places places' : List (ℕ × ℕ)) (slots slots' : List (Option (ℕ 
     → lookup (nat_eq x) places' ≡ cond (o == x) (Some s) (lookup (nat_eq x) places))
     (vacant : row_in slots s ≡ None) (filled : row_in slots' s ≡ Some (o, no_queue))
     (others : (t : ℕ) → t ≢ s → row_in slots' t ≡ row_in slots t) where
-  apart : (x t : ℕ) → lookup (nat_eq x) places ≡ Some t → t ≢ s
-  apart x t e same =
+  disjoint : (x t : ℕ) → lookup (nat_eq x) places ≡ Some t → t ≢ s
+  disjoint x t e same =
       none_some x (sym (ap (option_map (λ (r : ℕ × Queue). r.0)) vacant)
-      ∙ (ap (number_in slots) (sym same) ∙ a.there x t e))
+      ∙ (ap (row_number slots) (sym same) ∙ a.there x t e))
 
   there-added : (x t : ℕ) (b : Bool) → (o == x) ≡ b
-      → cond b (Some s) (lookup (nat_eq x) places) ≡ Some t → number_in slots' t ≡ Some x
+      → cond b (Some s) (lookup (nat_eq x) places) ≡ Some t → row_number slots' t ≡ Some x
   there-added x t true e h =
       let same : o ≡ x = grind (arith, nat_tests) in
-      ap (number_in slots') (sym (some_same s t h))
+      ap (row_number slots') (sym (some_same s t h))
       ∙ (ap (option_map (λ (r : ℕ × Queue). r.0)) filled ∙ ap (λ n. Some n) same)
   there-added x t false e h =
-      ap (option_map (λ (r : ℕ × Queue). r.0)) (others t (apart x t h)) ∙ a.there x t h
+      ap (option_map (λ (r : ℕ × Queue). r.0)) (others t (disjoint x t h)) ∙ a.there x t h
 
-  own-added : (t x : ℕ) → number_in slots' t ≡ Some x → (b : Bool) → (t == s) ≡ b
+  own-added : (t x : ℕ) → row_number slots' t ≡ Some x → (b : Bool) → (t == s) ≡ b
       → lookup (nat_eq x) places' ≡ Some t
   own-added t x h true e =
       let same : t ≡ s = grind (arith, nat_tests) in
       let own = some_same o x (sym (ap (option_map (λ (r : ℕ × Queue). r.0)) filled)
-      ∙ (ap (number_in slots') (sym same) ∙ h)) in
+      ∙ (ap (row_number slots') (sym same) ∙ h)) in
       placed x
       ∙ (ap (λ b. cond b (Some s) (lookup (nat_eq x) places)) (eq-eqb o x own)
       ∙ ap (λ n. Some n) (sym same))
@@ -166,7 +166,7 @@ module _ (places places' : List (ℕ × ℕ)) (slots slots' : List (Option (ℕ 
       go false e None h = refl
       go false e (Some t) h =
           ap (λ f. unwrap_or (option_map (λ (r : ℕ × Queue). r.1) f) no_queue)
-          (others t (apart x t h))
+          (others t (disjoint x t h))
 
   pub listed-added : (x : ℕ) → is_listed x (numbers (rows_by places' slots'))
       ≡ (is_listed x (numbers (rows_by places slots)) || (o == x))
@@ -194,17 +194,17 @@ module _ (places places' : List (ℕ × ℕ)) (slots slots' : List (Option (ℕ 
       false≢true (sym (other-slot places slots a o x s t at e other) ∙ eq-eqb s t (sym same))
 
   there-taken : (x t : ℕ) (b : Bool) → (o == x) ≡ b
-      → cond b None (lookup (nat_eq x) places) ≡ Some t → number_in slots' t ≡ Some x
+      → cond b None (lookup (nat_eq x) places) ≡ Some t → row_number slots' t ≡ Some x
   there-taken x t true e h = none_some t h
   there-taken x t false e h =
       ap (option_map (λ (r : ℕ × Queue). r.0)) (others t (far x t h e)) ∙ a.there x t h
 
-  own-taken : (t x : ℕ) → number_in slots' t ≡ Some x → (b : Bool) → (t == s) ≡ b
+  own-taken : (t x : ℕ) → row_number slots' t ≡ Some x → (b : Bool) → (t == s) ≡ b
       → lookup (nat_eq x) places' ≡ Some t
   own-taken t x h true e =
       let same : t ≡ s = grind (arith, nat_tests) in
       none_some x (sym (ap (option_map (λ (r : ℕ × Queue). r.0)) gone)
-      ∙ (ap (number_in slots') (sym same) ∙ h))
+      ∙ (ap (row_number slots') (sym same) ∙ h))
   own-taken t x h false e =
       let still = a.own t x (sym (ap (option_map (λ (r : ℕ × Queue). r.0))
       (others t (λ same. false≢true (sym e ∙ eq-eqb t s same)))) ∙ h) in

@@ -12,7 +12,7 @@ use Rattle.pt_chains.specs.declared.sides.Queue.{Queue}
 use Rattle.pt_waitq.specs.Waits.{is_listed}
 use Rattle.pt_chains.specs.Chains.{numbers, Unique}
 use Rattle.pt_chains.specs.Boxes.{no_queue}
-use Rattle.pt_chains.specs.Rows.{RowsView, row_in, number_in, chains_in, rows_by, rows_of, AreRows}
+use Rattle.pt_chains.specs.Rows.{RowsView, row_in, row_number, chains_in, rows_by, rows_of, AreRows}
 use Rattle.pt_chains.proofs.ChainLemmas.{listed-lookup, some_same}
 
 pub none_some : {X P : Type 0} (x : X) → None ≡ Some x → P
@@ -104,7 +104,7 @@ module _ (places : List (ℕ × ℕ)) (slots : List (Option (ℕ × Queue)))
       go true e =
           let same : s ≡ t = grind (arith, nat_tests) in
           let own = some_same o x (sym (a.there o s at)
-          ∙ (ap (number_in slots) same ∙ a.there x t is)) in
+          ∙ (ap (row_number slots) same ∙ a.there x t is)) in
           absurd (false≢true (sym far ∙ eq-eqb o x own))
 
   -- a number's slot has a row

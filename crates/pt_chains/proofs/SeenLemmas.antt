@@ -5,11 +5,11 @@ use Rattle.std.specs.Prelude.{◌↔◌, slice_index, unwrap_or, IfSome, IsSome,
 use Rattle.std.specs.Prelude.{MatchOption}
 use Rattle.std.specs.Option.{option_map}
 use Rattle.std.proofs.lemmas.Bool.{false≢true}
-use Rattle.pt_types.specs.Limits.{most_priority}
+use Rattle.pt_types.specs.Limits.{max_priority}
 use Rattle.pt_chains.specs.declared.sides.Queue.{Queue}
-use Rattle.pt_chains.specs.Chains.{side_of, HasNone, IsPut, IsTaken, IsFirst, IsFirstWriter}
+use Rattle.pt_chains.specs.Chains.{side_of, HasNone, IsAppended, IsUnlinked, IsFirst, IsFirstWriter}
 use Rattle.pt_chains.specs.Chains.{HasWriterFrom}
-use Rattle.pt_chains.specs.Boxes.{no_queue, lone_queue, queue_by, IsKept, IsLone, IsEmptied}
+use Rattle.pt_chains.specs.Boxes.{no_queue, lone_queue, queue_by, IsBoxRule, IsLone, IsEmptied}
 use Rattle.pt_chains.proofs.BoxLemmas.{none-without}
 use Rattle.pt_chains.proofs.LoneLemmas.{lone-queue, own-count, stands-lone, taken-lone}
 use Rattle.pt_chains.proofs.LoneLemmas.{taken-more, put-more}
@@ -22,9 +22,9 @@ one-least n waits = omega (arith, waits)
 
 module _ {X : Type 0} (f : X → Queue) (o : Option X) (head tail : Option ℕ) (n : ℕ) (k : Bool)
     (p : ℕ) (queue : Queue) (view : queue_by (option_map f o) head tail n k p ≡ queue)
-    (kept : IsKept (option_map f o) head tail n p) where
-  kept-as : (h : Option ℕ) → head ≡ h → IsKept (option_map f o) h tail n p
-  kept-as h e = subst (λ m. IsKept (option_map f o) m tail n p) e kept
+    (kept : IsBoxRule (option_map f o) head tail n p) where
+  kept-as : (h : Option ℕ) → head ≡ h → IsBoxRule (option_map f o) h tail n p
+  kept-as h e = subst (λ m. IsBoxRule (option_map f o) m tail n p) e kept
 
   seen-as : (h : Option ℕ) → head ≡ h → queue_by (option_map f o) h tail n k p ≡ queue
   seen-as h e = ap (λ m. queue_by (option_map f o) m tail n k p) (sym e) ∙ view
@@ -36,7 +36,7 @@ module _ {X : Type 0} (f : X → Queue) (o : Option X) (head tail : Option ℕ) 
       go None e = absurd (false≢true (sym (ap is_some e) ∙ some))
       go (Some h) e = (h, e)
 
-  pub lone-within : is_some head ≡ true → p < most_priority
+  pub lone-within : is_some head ≡ true → p < max_priority
   lone-within some = let h = some-lone some in (kept-as (Some h.0) h.1).0
 
   pub lone-waits : is_some head ≡ true → n ≢ 0
@@ -78,11 +78,11 @@ module _ {X : Type 0} (f : X → Queue) (o : Option X) (head tail : Option ℕ) 
 
   -- a lone chain with another end is still one
   pub kept-lone : (t : Option ℕ) (m : ℕ) → is_some head ≡ true → IsSome t → m ≢ 0
-      → IsKept (option_map f o) head t m p
+      → IsBoxRule (option_map f o) head t m p
   kept-lone t m some there waits =
       let h = some-lone some in
       let kept = kept-as (Some h.0) h.1 in
-      subst (λ l. IsKept (option_map f o) l t m p) (sym h.1) (kept.0, waits, there, kept.3)
+      subst (λ l. IsBoxRule (option_map f o) l t m p) (sym h.1) (kept.0, waits, there, kept.3)
 
   pub none-first : is_some o ≡ false → IsFirst queue None
   none-first none =
@@ -100,20 +100,21 @@ module _ {X : Type 0} (f : X → Queue) (o : Option X) (head tail : Option ℕ) 
 
   -- a node is put at the end of the lone chain
   pub lone-put : (w : Bool) (i m : ℕ) → is_some head ≡ true → w ≡ k → i ≡ p
-      → IsPut w i m tail queue (queue_by (option_map f o) head (Some m) (n + 1) k p)
+      → IsAppended w i m tail queue (queue_by (option_map f o) head (Some m) (n + 1) k p)
   lone-put w i m some kind level =
       let h = some-lone some in
-      subst (λ l. IsPut l i m tail queue (queue_by (option_map f o) head (Some m) (n + 1) k p))
+      subst (λ l. IsAppended l i m tail queue (queue_by (option_map f o) head (Some m) (n + 1) k p))
       (sym kind)
-      (subst (λ j. IsPut k j m tail queue (queue_by (option_map f o) head (Some m) (n + 1) k p))
+      (subst (λ j. IsAppended k j m tail queue (queue_by (option_map f o) head (Some m)
+      (n + 1) k p))
       (sym level)
-      (subst (λ x. IsPut k p m tail queue (queue_by (option_map f o) x (Some m) (n + 1) k p))
+      (subst (λ x. IsAppended k p m tail queue (queue_by (option_map f o) x (Some m) (n + 1) k p))
       (sym h.1)
-      (subst (λ x. IsPut k p m tail queue (lone_queue x (Some m) (n + 1) k p)) h.1
+      (subst (λ x. IsAppended k p m tail queue (lone_queue x (Some m) (n + 1) k p)) h.1
       (go tail refl (kept-as (Some h.0) h.1).2))))
     where
       go : (t : Option ℕ) → tail ≡ t → IsSome t
-          → IsPut k p m tail queue (lone_queue head (Some m) (n + 1) k p)
+          → IsAppended k p m tail queue (lone_queue head (Some m) (n + 1) k p)
       go None e there = absurd (false≢true there)
       go (Some t) e there =
           put-more k p n head tail queue (lone-within some) (seen-lone some) m t e
@@ -128,7 +129,7 @@ module _ {X : Type 0} (f : X → Queue) (o : Option X) (head tail : Option ℕ) 
       ∙ own-count k p n head tail queue within is)
 
   -- the last waiter is taken out of the lone chain
-  pub lone-emptied : (w : Bool) (i : ℕ) (before next : Option ℕ) → i < most_priority
+  pub lone-emptied : (w : Bool) (i : ℕ) (before next : Option ℕ) → i < max_priority
       → is_some head ≡ true → n ≡ 1 → is_some before ≡ false → is_some next ≡ false
       → 1 ≤ slice_index (side_of w queue).counts i
       → IsEmptied w i before next queue no_queue (option_map f o)
@@ -145,12 +146,12 @@ module _ {X : Type 0} (f : X → Queue) (o : Option X) (head tail : Option ℕ) 
       none None e = refl
       none (Some n) e = absurd (false≢true (sym e))
 
-      taken : (q : Queue) → HasNone q → IsTaken w i before next queue q
+      taken : (q : Queue) → HasNone q → IsUnlinked w i before next queue q
       taken q empty =
-          subst (λ l. IsTaken l i before next queue q) (sym chain.0)
-          (subst (λ j. IsTaken k j before next queue q) (sym chain.1)
-          (subst (λ x. IsTaken k p x next queue q) (none before first)
-          (subst (λ x. IsTaken k p None x queue q) (none next last)
+          subst (λ l. IsUnlinked l i before next queue q) (sym chain.0)
+          (subst (λ j. IsUnlinked k j before next queue q) (sym chain.1)
+          (subst (λ x. IsUnlinked k p x next queue q) (none before first)
+          (subst (λ x. IsUnlinked k p None x queue q) (none next last)
           (taken-lone k p n head tail queue (lone-within some) (seen-lone some) one q empty))))
 
       go : (b : Option Queue) → MatchOption b ⊥ HasNone
@@ -160,7 +161,7 @@ module _ {X : Type 0} (f : X → Queue) (o : Option X) (head tail : Option ℕ) 
           record { taken = taken q empty; emptied = (empty.len, refl); left = tt }
 
   -- one of several waiters is taken out of the lone chain
-  module _ (w : Bool) (i : ℕ) (before next : Option ℕ) (lt : i < most_priority)
+  module _ (w : Bool) (i : ℕ) (before next : Option ℕ) (lt : i < max_priority)
       (some : is_some head ≡ true) (more : n ≢ 1)
       (beside : (is_some before || is_some next) ≡ true)
       (stands : 1 ≤ slice_index (side_of w queue).counts i) where
@@ -191,11 +192,11 @@ module _ {X : Type 0} (f : X → Queue) (o : Option X) (head tail : Option ℕ) 
         go (Some m) None e t = refl
         go b (Some m) e t = t
 
-    pub kept-less : IsKept (option_map f o) new_head new_tail (n - 1) p
+    pub kept-less : IsBoxRule (option_map f o) new_head new_tail (n - 1) p
     kept-less =
         let kept = kept-as (Some alone.0) alone.1 in
         let waits = lone-waits some in
-        subst (λ l. IsKept (option_map f o) l new_tail (n - 1) p) (sym head-there.1)
+        subst (λ l. IsBoxRule (option_map f o) l new_tail (n - 1) p) (sym head-there.1)
         (kept.0, some-less n waits more, tail-there, kept.3)
 
     pub lone-less : IsEmptied w i before next queue
@@ -204,9 +205,9 @@ module _ {X : Type 0} (f : X → Queue) (o : Option X) (head tail : Option ℕ) 
         subst (λ x. IsEmptied w i before next queue
         (queue_by (option_map f o) x new_tail (n - 1) k p) None) (sym head-there.1)
         (record {
-          taken = subst (λ l. IsTaken l i before next queue left) (sym chain.0)
-              (subst (λ j. IsTaken k j before next queue left) (sym chain.1)
-              (subst (λ x. IsTaken k p before next queue (lone_queue x new_tail (n - 1) k p))
+          taken = subst (λ l. IsUnlinked l i before next queue left) (sym chain.0)
+              (subst (λ j. IsUnlinked k j before next queue left) (sym chain.1)
+              (subst (λ x. IsUnlinked k p before next queue (lone_queue x new_tail (n - 1) k p))
               head-there.1
               (taken-more k p n head tail queue (lone-within some) (seen-lone some) before next
               (lone-waits some))));

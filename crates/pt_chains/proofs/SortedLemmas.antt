@@ -5,7 +5,7 @@ use Rattle.std.proofs.lemmas.Bool.Decides.{nat_tests}
 use Rattle.std.specs.List.{AllByRecursion as Each}
 use Rattle.pt_types.specs.Times.{pair_before}
 use Rattle.pt_waitq.specs.declared.waiter.Waiter.{Waiter}
-use Rattle.pt_waitq.specs.Queues.{arrival, comes_before, is_like, IsLatest, insert_in_order}
+use Rattle.pt_waitq.specs.Queues.{arrival, comes_before, is_like, HasLatestArrival, insert_in_order}
 use Rattle.pt_waitq.specs.Waits.{queue_of, queue_from}
 use Rattle.pt_waitq.specs.QueueLemmas.{queue_of-more, queue_of-filter}
 use Rattle.pt_chains.specs.Chains.{is_kind, in_chain, chain_of}
@@ -55,7 +55,7 @@ kind-of o k p es = only o es ∙ queue_of-filter (is_kind k p) o es
     only o ds = from [] o ds
 
 kind-behind : (w : Waiter) (k : Bool) (p : ℕ) (vs : List Waiter) → is_kind k p w ≡ true
-    → IsLatest w vs
+    → HasLatestArrival w vs
     → Each (λ v. comes_before w v ≡ false) (filter (is_kind k p) vs)
 kind-behind w k p [] a l = tt
 kind-behind w k p (v ∷ vs) a l = go (is_kind k p v) refl (kind-behind w k p vs a l.1)
@@ -74,7 +74,7 @@ map-append (x ∷ es) e = ap (λ ws. x.1 ∷ ws) (map-append es e)
 
 -- the latest waiter of its kind goes after its chain, which stays in order of arrival
 pub sorted-more : (o : ℕ) (k : Bool) (p : ℕ) (es : List (ℕ × Waiter)) (w : Waiter)
-    → is_kind k p w ≡ true → IsLatest w (queue_of o es)
+    → is_kind k p w ≡ true → HasLatestArrival w (queue_of o es)
     → queue_of o (chain_of o k p es) ≡ map (λ e. e.1) (chain_of o k p es)
     → queue_of o (chain_of o k p es ++ (o, w) ∷ []) ≡ map (λ e. e.1) (chain_of o k p es ++
     (o, w) ∷ [])

@@ -7,18 +7,20 @@ use Rattle.std.specs.Option.{option_and_then}
 use Rattle.std.specs.Map.{lookup}
 use Rattle.std.proofs.lemmas.Bool.Decides.{nat_tests}
 use Rattle.std.proofs.lemmas.Bool.{false≢true}
-use Rattle.pt_types.specs.Limits.{most_priority}
+use Rattle.pt_types.specs.Limits.{max_priority}
 use Rattle.pt_waitq.specs.declared.waiter.Waiter.{Waiter}
 use Rattle.pt_chains.specs.declared.nodes.Node.{Node}
 use Rattle.pt_chains.specs.declared.sides.Queue.{Queue}
-use Rattle.pt_waitq.specs.Queues.{In, IsLatest}
-use Rattle.pt_waitq.specs.Waits.{is_listed, has_waiter, queue_of, AllStand}
+use Rattle.pt_waitq.specs.Queues.{In, HasLatestArrival}
+use Rattle.pt_waitq.specs.Waits.{is_listed, has_waiter, queue_of, AllQueued}
 use Rattle.pt_waitq.specs.ListLemmas.{any-append, any-without}
-use Rattle.pt_chains.specs.Chains.{numbers, after, waiting_from, waiting_by, first_in, last_in}
+use Rattle.pt_chains.specs.Chains.{numbers, waiters_after, waiting_from, queued_waiters, first_in}
+use Rattle.pt_chains.specs.Chains.{last_in}
 use Rattle.pt_chains.specs.Chains.{is_at, side_of, Links, chain_of, in_chain, nodes_of, node_in}
-use Rattle.pt_chains.specs.Chains.{next_in, before_in, entry_in, home_of, index_of, entry_of}
-use Rattle.pt_chains.specs.Chains.{AreHomes, AreChains, AreOwn, IsPut, IsTaken}
-use Rattle.pt_chains.specs.Chains.{client_in, entry_at}
+use Rattle.pt_chains.specs.Chains.{next_in, before_in, entry_in, node_index_of, index_of}
+use Rattle.pt_chains.specs.Chains.{entry_of_client}
+use Rattle.pt_chains.specs.Chains.{AreNodeIndexes, AreChains, AreOwn, IsAppended, IsUnlinked}
+use Rattle.pt_chains.specs.Chains.{client_of_node, entry_at}
 use Rattle.pt_waitq.proofs.ChangeLemmas.{stand-in, stand-out}
 use Rattle.pt_chains.proofs.LinkLemmas.{eq_true}
 use Rattle.pt_chains.proofs.ChainLemmas.{chain-member, is-listed, listed-lookup, index-there}
@@ -30,12 +32,12 @@ use Rattle.pt_chains.proofs.TakeLemmas.{chains-taken, count-own, len-own, listed
 -- the waiters after one more call
 waiting_from-more : (es : List (ℕ × Waiter)) (log : List (Option ℕ × Waiter))
     (a : Option ℕ × Waiter)
-    → waiting_from es (log ++ a ∷ []) ≡ after (waiting_from es log) a.0 a.1
+    → waiting_from es (log ++ a ∷ []) ≡ waiters_after (waiting_from es log) a.0 a.1
 waiting_from-more es [] a = refl
-waiting_from-more es (b ∷ log) a = waiting_from-more (after es b.0 b.1) log a
+waiting_from-more es (b ∷ log) a = waiting_from-more (waiters_after es b.0 b.1) log a
 
 pub waiting-more : (log : List (Option ℕ × Waiter)) (a : Option ℕ × Waiter)
-    → waiting_by (log ++ a ∷ []) ≡ after (waiting_by log) a.0 a.1
+    → queued_waiters (log ++ a ∷ []) ≡ waiters_after (queued_waiters log) a.0 a.1
 waiting-more log a = waiting_from-more [] log a
 
 pub some-if : {X : Type 0} (P : X → Type 0) (o : Option X) → ((x : X) → o ≡ Some x → P x)
@@ -59,27 +61,27 @@ queues-changed queues queues' o q1 others at x = go (o == x) refl
 
 homed-still : (homes : List (ℕ × ℕ)) (nodes nodes' : List (Option Node))
     → ((m : ℕ) → is_some (node_in nodes' m) ≡ is_some (node_in nodes m))
-    → AreOwn homes nodes' → AreHomes homes nodes → AreHomes homes nodes'
+    → AreOwn homes nodes' → AreNodeIndexes homes nodes → AreNodeIndexes homes nodes'
 homed-still homes nodes nodes' there own a =
     record {
       there = λ c m h. there m ∙ a.there c m h;
-      apart = a.apart;
+      disjoint = a.disjoint;
       own = own;
-      few = a.few;
+      bounded = a.bounded;
     }
 
 -- a node that is written again for its client
 own-again : (homes : List (ℕ × ℕ)) (nodes nodes' : List (Option Node)) (n c : ℕ)
-    → home_of homes c ≡ Some n
-    → ((m : ℕ) → client_in nodes' m ≡ cond (n == m) (Some c) (client_in nodes m))
+    → node_index_of homes c ≡ Some n
+    → ((m : ℕ) → client_of_node nodes' m ≡ cond (n == m) (Some c) (client_of_node nodes m))
     → AreOwn homes nodes → AreOwn homes nodes'
 own-again homes nodes nodes' n c home clients own m d e = go (n == m) refl (sym (clients m) ∙ e)
   where
-    go : (b : Bool) → (n == m) ≡ b → cond b (Some c) (client_in nodes m) ≡ Some d
-        → home_of homes d ≡ Some m
+    go : (b : Bool) → (n == m) ≡ b → cond b (Some c) (client_of_node nodes m) ≡ Some d
+        → node_index_of homes d ≡ Some m
     go true q h =
         let same : n ≡ m = grind (arith, nat_tests) in
-        ap (home_of homes) (sym (some_same c d h)) ∙ (home ∙ ap (λ k. Some k) same)
+        ap (node_index_of homes) (sym (some_same c d h)) ∙ (home ∙ ap (λ k. Some k) same)
     go false q h = own m d h
 
 later : (t b : Bool) → b ≡ true → (t || b) ≡ true
@@ -131,8 +133,8 @@ module _ (homes : List (ℕ × ℕ)) (nodes : List (Option Node)) (queues : List
       (index-there homes nodes queues es a d.0 d.1 ∙ ap (λ x. Some x) d.3)
 
   -- there is room for one more waiter
-  pub room-there : (o c n : ℕ) (k : Bool) (p : ℕ) → p < most_priority
-      → home_of homes c ≡ Some n → has_waiter c es ≡ false
+  pub room-there : (o c n : ℕ) (k : Bool) (p : ℕ) → p < max_priority
+      → node_index_of homes c ≡ Some n → has_waiter c es ≡ false
       → IfSome (lookup (nat_eq o) queues) (λ q. slice_index (side_of k q).counts p + 1 < 2 ^ 32)
   room-there o c n k p lt at none =
       some-if (λ (q : Queue). slice_index (side_of k q).counts p + 1 < 2 ^ 32)
@@ -142,7 +144,7 @@ module _ (homes : List (ℕ × ℕ)) (nodes : List (Option Node)) (queues : List
       let room = chain-room homes nodes queues es c n a at none (index_of homes) o k (p + 1) in
       omega (arith, count, room))
 
-  pub len-there : (o c n : ℕ) → home_of homes c ≡ Some n → has_waiter c es ≡ false
+  pub len-there : (o c n : ℕ) → node_index_of homes c ≡ Some n → has_waiter c es ≡ false
       → IfSome (lookup (nat_eq o) queues) (λ q. q.len + 1 < 2 ^ 64)
   len-there o c n at none =
       some-if (λ (q : Queue). q.len + 1 < 2 ^ 64) (lookup (nat_eq o) queues) (λ q h.
@@ -151,7 +153,7 @@ module _ (homes : List (ℕ × ℕ)) (nodes : List (Option Node)) (queues : List
       omega (arith, len, room))
 
   -- the tail of a chain exists
-  pub tail-there : (o : ℕ) (q : Queue) (k : Bool) (p : ℕ) (last : Option ℕ) → p < most_priority
+  pub tail-there : (o : ℕ) (q : Queue) (k : Bool) (p : ℕ) (last : Option ℕ) → p < max_priority
       → lookup (nat_eq o) queues ≡ Some q → last ≡ slice_index_or (side_of k q).tails p None
       → IfSome last (λ l. IsSome (node_in nodes l))
   tail-there o q k p last lt at is =
@@ -164,25 +166,25 @@ module _ (homes : List (ℕ × ℕ)) (nodes : List (Option Node)) (queues : List
 module _ (homes : List (ℕ × ℕ)) (nodes nodes' : List (Option Node))
     (queues queues' : List (ℕ × Queue)) (es : List (ℕ × Waiter)) (o p n : ℕ) (w : Waiter)
     (last : Option ℕ) (a : AreChains homes nodes queues es)
-    (none : has_waiter w.client es ≡ false) (home : home_of homes w.client ≡ Some n)
-    (level : p + 1 ≡ w.prio) (within : p < most_priority)
-    (made : is_listed o (numbers queues) ≡ true)
+    (none : has_waiter w.client es ≡ false) (home : node_index_of homes w.client ≡ Some n)
+    (level : p + 1 ≡ w.prio) (within : p < max_priority)
+    (is_queue : is_listed o (numbers queues) ≡ true)
     (same : numbers queues' ≡ numbers queues)
     (others : (x : ℕ) → (o == x) ≡ false
     → lookup (nat_eq x) queues' ≡ lookup (nat_eq x) queues)
     (put : (old new : Queue) → lookup (nat_eq o) queues ≡ Some old
-    → lookup (nat_eq o) queues' ≡ Some new → IsPut w.writer p n last old new) where
-  pub put-stand : AllStand (numbers queues') (es ++ (o, w) ∷ [])
+    → lookup (nat_eq o) queues' ≡ Some new → IsAppended w.writer p n last old new) where
+  pub put-stand : AllQueued (numbers queues') (es ++ (o, w) ∷ [])
   put-stand =
-      subst (λ os. AllStand os (es ++ (o, w) ∷ [])) (sym same)
-      (stand-in (numbers queues) es (es ++ (o, w) ∷ []) (o, w) a.stand made none refl)
+      subst (λ os. AllQueued os (es ++ (o, w) ∷ [])) (sym same)
+      (stand-in (numbers queues) es (es ++ (o, w) ∷ []) (o, w) a.queued is_queue none refl)
 
   new-queue : (q : Queue) × (lookup (nat_eq o) queues' ≡ Some q)
-  new-queue = is-listed queues' o (ap (is_listed o) same ∙ made)
+  new-queue = is-listed queues' o (ap (is_listed o) same ∙ is_queue)
 
   pub last-there : IfSome last (λ l. IsSome (node_in nodes l))
   last-there =
-      let old = is-listed queues o made in
+      let old = is-listed queues o is_queue in
       let new = new-queue in
       tail-there homes nodes queues es a o old.0 w.writer p last within old.1
       (put old.0 new.0 old.1 new.1).last
@@ -192,13 +194,13 @@ module _ (homes : List (ℕ × ℕ)) (nodes nodes' : List (Option Node))
       ≡ cond (n == c) None (cond (is_at c last) (Some n) (next_in nodes c)))
       → ((c : ℕ) → before_in nodes' c ≡ cond (n == c) last (before_in nodes c))
       → ((c : ℕ) → entry_in nodes' c ≡ cond (n == c) (Some (o, w)) (entry_in nodes c))
-      → ((c : ℕ) → client_in nodes' c ≡ cond (n == c) (Some w.client) (client_in nodes c))
-      → IsLatest w (queue_of o es) → AreChains homes nodes' queues' (es ++ (o, w) ∷ [])
+      → ((c : ℕ) → client_of_node nodes' c ≡ cond (n == c) (Some w.client) (client_of_node nodes c))
+      → HasLatestArrival w (queue_of o es) → AreChains homes nodes' queues' (es ++ (o, w) ∷ [])
   step-put there next before entries clients latest =
-      let old = is-listed queues o made in
+      let old = is-listed queues o is_queue in
       let new = new-queue in
       let low : 1 ≤ w.prio = omega (arith, level) in
-      let high : w.prio ≤ most_priority = omega (arith, level, within) in
+      let high : w.prio ≤ max_priority = omega (arith, level, within) in
       chains-put homes nodes nodes' queues queues' es o p n w last old.0 new.0 a none home
       (ap (λ x. unwrap_or x 0) home) level within old.1
       (queues-changed queues queues' o new.0 others new.1) (put old.0 new.0 old.1 new.1) next
@@ -211,11 +213,11 @@ module _ (homes : List (ℕ × ℕ)) (nodes nodes' : List (Option Node))
 module _ (homes : List (ℕ × ℕ)) (nodes nodes' : List (Option Node))
     (queues queues' : List (ℕ × Queue)) (es : List (ℕ × Waiter)) (o p n : ℕ) (w : Waiter)
     (next before : Option ℕ) (a : AreChains homes nodes queues es) (in_es : In (o, w) es)
-    (home : home_of homes w.client ≡ Some n)
+    (home : node_index_of homes w.client ≡ Some n)
     (is : node_in nodes n
     ≡ Some (record { object = Some o; waiter = w; next = next; before = before }))
-    (level : p + 1 ≡ w.prio) (within : p < most_priority)
-    (made : is_listed o (numbers queues) ≡ true) where
+    (level : p + 1 ≡ w.prio) (within : p < max_priority)
+    (is_queue : is_listed o (numbers queues) ≡ true) where
   abbrev node : Node
   node = record { object = Some o; waiter = w; next = next; before = before }
 
@@ -237,7 +239,7 @@ module _ (homes : List (ℕ × ℕ)) (nodes nodes' : List (Option Node))
   pub beside-there : IfSome before (λ m. IsSome (node_in nodes m))
       × IfSome next (λ m. IsSome (node_in nodes m))
   beside-there =
-      let q = is-listed queues o made in
+      let q = is-listed queues o is_queue in
       let chain = a.chains o q.0 q.1 w.writer p within in
       let own = listed-own homes nodes nodes' queues queues' es o p n w node q.0 q.0 a in_es home
       is level within q.1 in
@@ -254,12 +256,12 @@ module _ (homes : List (ℕ × ℕ)) (nodes nodes' : List (Option Node))
       (others : (x : ℕ) → (o == x) ≡ false
       → lookup (nat_eq x) queues' ≡ lookup (nat_eq x) queues)
       (taken : (old new : Queue) → lookup (nat_eq o) queues ≡ Some old
-      → lookup (nat_eq o) queues' ≡ Some new → IsTaken w.writer p before next old new) where
-    pub take-stand : AllStand (numbers queues') (filter (λ e. not (e.1.client == w.client)) es)
+      → lookup (nat_eq o) queues' ≡ Some new → IsUnlinked w.writer p before next old new) where
+    pub take-stand : AllQueued (numbers queues') (filter (λ e. not (e.1.client == w.client)) es)
     take-stand =
-        subst (λ os. AllStand os (filter (λ e. not (e.1.client == w.client)) es)) (sym same)
+        subst (λ os. AllQueued os (filter (λ e. not (e.1.client == w.client)) es)) (sym same)
         (stand-out (numbers queues) es (filter (λ e. not (e.1.client == w.client)) es)
-        (λ e. not (e.1.client == w.client)) a.stand refl)
+        (λ e. not (e.1.client == w.client)) a.queued refl)
 
     pub step-take : ((m : ℕ) → is_some (node_in nodes' m) ≡ is_some (node_in nodes m))
         → ((c : ℕ) → next_in nodes' c
@@ -267,11 +269,11 @@ module _ (homes : List (ℕ × ℕ)) (nodes nodes' : List (Option Node))
         → ((c : ℕ) → before_in nodes' c
         ≡ cond (n == c) None (cond (is_at c next) before (before_in nodes c)))
         → ((c : ℕ) → entry_in nodes' c ≡ cond (n == c) None (entry_in nodes c))
-        → ((c : ℕ) → client_in nodes' c ≡ client_in nodes c)
+        → ((c : ℕ) → client_of_node nodes' c ≡ client_of_node nodes c)
         → AreChains homes nodes' queues' (filter (λ e. not (e.1.client == w.client)) es)
     step-take there nexts befores entries clients =
-        let old = is-listed queues o made in
-        let new = is-listed queues' o (ap (is_listed o) same ∙ made) in
+        let old = is-listed queues o is_queue in
+        let new = is-listed queues' o (ap (is_listed o) same ∙ is_queue) in
         chains-taken homes nodes nodes' queues queues' es o p n w node old.0 new.0 a in_es home is
         level within old.1 (queues-changed queues queues' o new.0 others new.1)
         (taken old.0 new.0 old.1 new.1) nexts befores take-stand entries
@@ -312,11 +314,11 @@ take-admits hs es c d h =
 
 -- the entry of a client is that of its node
 pub place-entry : (homes : List (ℕ × ℕ)) (nodes : List (Option Node)) (c n : ℕ) (its : Node)
-    → home_of homes c ≡ Some n → node_in nodes n ≡ Some its
-    → entry_of homes nodes c ≡ entry_at its
+    → node_index_of homes c ≡ Some n → node_in nodes n ≡ Some its
+    → entry_of_client homes nodes c ≡ entry_at its
 place-entry homes nodes c n its h k =
     ap (option_and_then (entry_in nodes)) h ∙ ap (option_and_then entry_at) k
 
-pub home-listed : (homes : List (ℕ × ℕ)) (c n : ℕ) → home_of homes c ≡ Some n
+pub home-listed : (homes : List (ℕ × ℕ)) (c n : ℕ) → node_index_of homes c ≡ Some n
     → is_listed c (numbers homes) ≡ true
 home-listed homes c n h = listed-lookup c homes ∙ ap is_some h

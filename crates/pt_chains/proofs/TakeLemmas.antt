@@ -9,26 +9,27 @@ use Rattle.std.specs.Map.{lookup}
 use Rattle.std.proofs.lemmas.Bool.Decides.{nat_tests}
 use Rattle.std.proofs.lemmas.Bool.{false≢true}
 use Rattle.std.proofs.lemmas.List.Filters.{length-filter_both}
-use Rattle.pt_types.specs.Limits.{most_priority}
+use Rattle.pt_types.specs.Limits.{max_priority}
 use Rattle.pt_waitq.specs.declared.waiter.Waiter.{Waiter}
 use Rattle.pt_chains.specs.declared.nodes.Node.{Node}
 use Rattle.pt_chains.specs.declared.sides.Side.{Side}
 use Rattle.pt_chains.specs.declared.sides.Queue.{Queue}
 use Rattle.pt_waitq.specs.Queues.{In, of_client}
-use Rattle.pt_waitq.specs.Waits.{is_listed, has_waiter, queue_of, AllStand}
+use Rattle.pt_waitq.specs.Waits.{is_listed, has_waiter, queue_of, AllQueued}
 use Rattle.pt_waitq.specs.ListLemmas.{any-out, any-without, In-filter, Each-filter, filter-none}
 use Rattle.pt_waitq.specs.ListLemmas.{filter-rest}
-use Rattle.pt_waitq.specs.WaitingLemmas.{one_entry, only-waiter, queue_of-without}
+use Rattle.pt_waitq.specs.WaitingLemmas.{one_entry, only-waiter, queue_of-other_waiters}
 use Rattle.pt_chains.specs.Chains.{numbers, first_entry, is_at, side_of, Links, IsChain, is_kind}
 use Rattle.pt_chains.specs.Chains.{chain_of, in_chain, nodes_of, node_in, next_in, before_in}
-use Rattle.pt_chains.specs.Chains.{entry_in, home_of, index_of, entry_of, AreHomes, AreChains}
-use Rattle.pt_chains.specs.Chains.{IsTaken}
+use Rattle.pt_chains.specs.Chains.{entry_in, node_index_of, index_of, entry_of_client}
+use Rattle.pt_chains.specs.Chains.{AreNodeIndexes, AreChains}
+use Rattle.pt_chains.specs.Chains.{IsUnlinked}
 use Rattle.pt_waitq.proofs.MemberLemmas.{filter-in}
 use Rattle.pt_chains.proofs.LinkLemmas.{but, eq_true, listed_apart, next_apart, before_apart}
 use Rattle.pt_chains.proofs.EndLemmas.{chain-removed, chain-kept}
 use Rattle.pt_chains.proofs.SortedLemmas.{sorted-fewer}
 use Rattle.pt_chains.proofs.ChainLemmas.{some_same, index-apart}
-use Rattle.pt_chains.proofs.HomeLemmas.{entry-changed}
+use Rattle.pt_chains.proofs.NodeIndexLemmas.{entry-changed}
 use Rattle.pt_chains.proofs.InsertLemmas.{unique-chain}
 use Rattle.pt_chains.proofs.PutLemmas.{other-chain, either, other-kind, other-level, other-queue}
 use Rattle.pt_chains.proofs.PutLemmas.{own-kind}
@@ -95,8 +96,8 @@ listed-in f (x ∷ ds) d (inr i) = later (f x.1.client == f d.1.client) (listed-
 module _ (homes : List (ℕ × ℕ)) (nodes nodes' : List (Option Node))
     (queues queues' : List (ℕ × Queue)) (es : List (ℕ × Waiter)) (o p n : ℕ) (w : Waiter)
     (node : Node) (q0 q1 : Queue) (a : AreChains homes nodes queues es)
-    (there : In (o, w) es) (home : home_of homes w.client ≡ Some n)
-    (is : node_in nodes n ≡ Some node) (level : p + 1 ≡ w.prio) (within : p < most_priority)
+    (there : In (o, w) es) (home : node_index_of homes w.client ≡ Some n)
+    (is : node_in nodes n ≡ Some node) (level : p + 1 ≡ w.prio) (within : p < max_priority)
     (at : lookup (nat_eq o) queues ≡ Some q0) where
   abbrev fewer : List (ℕ × Waiter)
   fewer = filter (λ e. not (e.1.client == w.client)) es
@@ -158,10 +159,10 @@ module _ (homes : List (ℕ × ℕ)) (nodes nodes' : List (Option Node))
   one-fewer x =
       let parts = length-filter_both (λ (v : Waiter). v.client == w.client)
       (λ v. not (v.client == w.client)) (λ v. refl) (queue_of x es) in
-      let one = only-waiter w.client (o, w) es a.stand.once there refl x in
+      let one = only-waiter w.client (o, w) es a.queued.once there refl x in
       ap (λ ws. length ws + length (queue_of x fewer)) (sym one)
       ∙ (ap (λ ws. length (of_client w.client (queue_of x es)) + length ws)
-      (queue_of-without w.client x es) ∙ parts)
+      (queue_of-other_waiters w.client x es) ∙ parts)
 
   pub len-own : 1 ≤ q0.len
   len-own =
@@ -183,12 +184,12 @@ module _ (homes : List (ℕ × ℕ)) (nodes nodes' : List (Option Node))
           let d = any-out test (chain_of x k r es) h in
           let i = In-filter (in_chain x k r) es d.0 d.1 in
           let one : d.0.1.client ≡ w.client = grind (arith, nat_tests, d.2) in
-          let same = one_entry d.0 (o, w) es a.stand.once i.0 there one in
+          let same = one_entry d.0 (o, w) es a.queued.once i.0 there one in
           absurd (false≢true (sym out ∙ (ap (in_chain x k r) (sym same) ∙ i.1)))
 
   module _ (rest : (x : ℕ) → lookup (nat_eq x) queues'
       ≡ cond (o == x) (Some q1) (lookup (nat_eq x) queues))
-      (taken : IsTaken w.writer p node.before node.next q0 q1)
+      (taken : IsUnlinked w.writer p node.before node.next q0 q1)
       (next : (c : ℕ) → next_in nodes' c
       ≡ cond (n == c) None (cond (is_at c node.before) node.next (next_in nodes c)))
       (before : (c : ℕ) → before_in nodes' c
@@ -234,9 +235,9 @@ module _ (homes : List (ℕ × ℕ)) (nodes nodes' : List (Option Node))
         (chain-kept (next_in nodes) (before_in nodes) (next_in nodes') (before_in nodes') old new
         r _ hc ht hh
         (λ m i.
-        let apart = index-apart homes nodes queues es a in
+        let disjoint = index-apart homes nodes queues es a in
         let away = other-chain (index_of homes) o x (p + 1) (r + 1) m k w.writer w es
-        a.stand.once apart (own-kind p w level) out i in
+        a.queued.once disjoint (own-kind p w level) out i in
         let self = listed_apart n m mine listed-own away in
         let ahead = ahead_apart (next_in nodes) (before_in nodes) m n mine whole.links
         listed-own away in
@@ -253,10 +254,10 @@ module _ (homes : List (ℕ × ℕ)) (nodes nodes' : List (Option Node))
         ))
         chain)
 
-    level-own : (r : ℕ) → r < most_priority → (t : Bool) → (p == r) ≡ t → Whole o w.writer q1 r
+    level-own : (r : ℕ) → r < max_priority → (t : Bool) → (p == r) ≡ t → Whole o w.writer q1 r
     level-own r lt true e =
         let same : p ≡ r = grind (arith, nat_tests) in
-        let apart = index-apart homes nodes queues es a in
+        let disjoint = index-apart homes nodes queues es a in
         let old = side_of w.writer q0 in
         let chain = chain_of o w.writer (p + 1) es in
         let count = slice_index old.counts p in
@@ -281,7 +282,7 @@ module _ (homes : List (ℕ × ℕ)) (nodes nodes' : List (Option Node))
         ∙ (ap (λ x. cond (not (is_some x)) node.next head) (sym before_is)
         ∙ ap (λ x. cond (not (is_some (before_in nodes n))) x head) (sym next_is))))
         hn hb listed-own
-        (unique-chain (index_of homes) (in_chain o w.writer (p + 1)) es a.stand.once apart)
+        (unique-chain (index_of homes) (in_chain o w.writer (p + 1)) es a.queued.once disjoint)
         whole))
     level-own r lt false e =
         let old = side_of w.writer q0 in
@@ -297,7 +298,7 @@ module _ (homes : List (ℕ × ℕ)) (nodes nodes' : List (Option Node))
         (slice_index_or old.heads r None)) e)
         (a.chains o q0 at w.writer r lt)
 
-    kinds : (r : ℕ) → r < most_priority → (l : Bool) → (l ≡ w.writer) ⊎ (l ≡ not w.writer)
+    kinds : (r : ℕ) → r < max_priority → (l : Bool) → (l ≡ w.writer) ⊎ (l ≡ not w.writer)
         → Whole o l q1 r
     kinds r lt l (inl e) = subst (λ b. Whole o b q1 r) (sym e) (level-own r lt (p == r) refl)
     kinds r lt l (inr e) =
@@ -309,7 +310,7 @@ module _ (homes : List (ℕ × ℕ)) (nodes nodes' : List (Option Node))
 
     -- all chains after a waiter is taken out
     take-chains : (x : ℕ) (q : Queue) → lookup (nat_eq x) queues' ≡ Some q → (k : Bool) (r : ℕ)
-        → r < most_priority → Whole x k q r
+        → r < max_priority → Whole x k q r
     take-chains x q h k r lt = go (o == x) refl (sym (rest x) ∙ h)
       where
         go : (t : Bool) → (o == x) ≡ t → cond t (Some q1) (lookup (nat_eq x) queues) ≡ Some q
@@ -340,7 +341,7 @@ module _ (homes : List (ℕ × ℕ)) (nodes nodes' : List (Option Node))
         omega (arith, was, part, less)
 
     own-fewer : (d : ℕ) (t : Bool) → (w.client == d) ≡ t
-        → cond t None (entry_of homes nodes d)
+        → cond t None (entry_of_client homes nodes d)
         ≡ first_entry (filter (λ e. e.1.client == d) fewer)
     own-fewer d true e =
         let test = λ (x : ℕ × Waiter). x.1.client == d in
@@ -362,20 +363,20 @@ module _ (homes : List (ℕ × ℕ)) (nodes nodes' : List (Option Node))
             let i = In-filter (λ (x : ℕ × Waiter). x.1.client == d) es r.0 r.1 in
             absurd (grind (arith, nat_tests, e, r.2, i.1))
 
-    module _ (stand : AllStand (numbers queues') fewer)
+    module _ (queued : AllQueued (numbers queues') fewer)
         (entries : (m : ℕ) → entry_in nodes' m ≡ cond (n == m) None (entry_in nodes m))
-        (homed : AreHomes homes nodes') where
+        (homed : AreNodeIndexes homes nodes') where
       -- and all else that is true of them
       pub chains-taken : AreChains homes nodes' queues' fewer
       chains-taken =
           record {
-            stand = stand;
+            queued = queued;
             homed = homed;
             own = λ d.
                 entry-changed homes nodes nodes' w.client n None a.homed home entries d
                 ∙ own-fewer d (w.client == d) refl;
             levels =
-                Each-filter (λ (e : ℕ × Waiter). (1 ≤ e.1.prio) × (e.1.prio ≤ most_priority))
+                Each-filter (λ (e : ℕ × Waiter). (1 ≤ e.1.prio) × (e.1.prio ≤ max_priority))
                 (λ e. not (e.1.client == w.client)) es a.levels;
             len = λ x q h. len_in x q (o == x) refl (sym (rest x) ∙ h);
             sorted = λ x k r.

@@ -6,34 +6,34 @@ use Rattle.std.specs.Prelude.{if◌then◌else◌}
 use Rattle.std.specs.Option.{option_and_then, option_map}
 use Rattle.std.specs.Map.{lookup}
 use Rattle.std.specs.List.{AllByRecursion as Each}
-use Rattle.pt_types.specs.KeyOrder.{rank}
-use Rattle.pt_types.specs.Limits.{most_priority}
+use Rattle.pt_types.specs.KeyOrder.{kind_rank}
+use Rattle.pt_types.specs.Limits.{max_priority}
 use Rattle.pt_waitq.specs.declared.waiter.Waiter.{Waiter}
 use Rattle.pt_chains.specs.declared.nodes.Node.{Node}
 use Rattle.pt_chains.specs.declared.sides.Side.{Side}
 use Rattle.pt_chains.specs.declared.sides.Queue.{Queue}
-use Rattle.pt_waitq.specs.Waits.{queue_of, is_listed, AllStand}
+use Rattle.pt_waitq.specs.Waits.{queue_of, is_listed, AllQueued}
 
 -- the keys of a map
 abbrev pub numbers : {X : Type 0} → List (ℕ × X) → List ℕ
 numbers es = map (λ e. e.0) es
 
 -- the waiters after one is put in, given its queue's number, or removed, given none
-abbrev pub after : List (ℕ × Waiter) → Option ℕ → Waiter → List (ℕ × Waiter)
-after es (Some o) w = es ++ (o, w) ∷ []
-after es None w = filter (λ e. not (e.1.client == w.client)) es
+abbrev pub waiters_after : List (ℕ × Waiter) → Option ℕ → Waiter → List (ℕ × Waiter)
+waiters_after es (Some o) w = es ++ (o, w) ∷ []
+waiters_after es None w = filter (λ e. not (e.1.client == w.client)) es
 
 abbrev pub waiting_from : List (ℕ × Waiter) → List (Option ℕ × Waiter) → List (ℕ × Waiter)
 waiting_from es [] = es
-waiting_from es (a ∷ log) = waiting_from (after es a.0 a.1) log
+waiting_from es (a ∷ log) = waiting_from (waiters_after es a.0 a.1) log
 
 -- the queued waiters, in the order in which they were put in
-abbrev pub waiting_by : List (Option ℕ × Waiter) → List (ℕ × Waiter)
-waiting_by log = waiting_from [] log
+abbrev pub queued_waiters : List (Option ℕ × Waiter) → List (ℕ × Waiter)
+queued_waiters log = waiting_from [] log
 
 -- whether a waiter has this kind and priority
 abbrev pub is_kind : Bool → ℕ → Waiter → Bool
-is_kind k p w = (w.prio == p) && (rank w.writer == rank k)
+is_kind k p w = (w.prio == p) && (kind_rank w.writer == kind_rank k)
 
 abbrev pub in_chain : ℕ → Bool → ℕ → ℕ × Waiter → Bool
 in_chain o k p e = (e.0 == o) && is_kind k p e.1
@@ -78,18 +78,18 @@ abbrev pub entry_in : List (Option Node) → ℕ → Option (ℕ × Waiter)
 entry_in nodes n = option_and_then entry_at (node_in nodes n)
 
 -- the client whose node is at an index
-abbrev pub client_in : List (Option Node) → ℕ → Option ℕ
-client_in nodes n = option_map (λ node. node.waiter.client) (node_in nodes n)
+abbrev pub client_of_node : List (Option Node) → ℕ → Option ℕ
+client_of_node nodes n = option_map (λ node. node.waiter.client) (node_in nodes n)
 
 -- the index of a client's node, and the entry in that node
-abbrev pub home_of : List (ℕ × ℕ) → ℕ → Option ℕ
-home_of homes c = lookup (nat_eq c) homes
+abbrev pub node_index_of : List (ℕ × ℕ) → ℕ → Option ℕ
+node_index_of homes c = lookup (nat_eq c) homes
 
 abbrev pub index_of : List (ℕ × ℕ) → ℕ → ℕ
-index_of homes c = unwrap_or (home_of homes c) 0
+index_of homes c = unwrap_or (node_index_of homes c) 0
 
-abbrev pub entry_of : List (ℕ × ℕ) → List (Option Node) → ℕ → Option (ℕ × Waiter)
-entry_of homes nodes c = option_and_then (entry_in nodes) (home_of homes c)
+abbrev pub entry_of_client : List (ℕ × ℕ) → List (Option Node) → ℕ → Option (ℕ × Waiter)
+entry_of_client homes nodes c = option_and_then (entry_in nodes) (node_index_of homes c)
 
 -- the indices of the nodes of these waiters
 abbrev pub nodes_of : (ℕ → ℕ) → List (ℕ × Waiter) → List ℕ
@@ -117,23 +117,24 @@ pub record IsChain (next before : ℕ → Option ℕ) (side : Side) (p : ℕ) (n
 
 -- a node with a client's number is that client's node
 abbrev pub AreOwn : List (ℕ × ℕ) → List (Option Node) → Type 0
-AreOwn homes nodes = (n c : ℕ) → client_in nodes n ≡ Some c → home_of homes c ≡ Some n
+AreOwn homes nodes = (n c : ℕ) → client_of_node nodes n ≡ Some c → node_index_of homes c ≡ Some n
 
 -- each client has a separate node, and there are fewer than 2^32 clients
-pub record AreHomes (homes : List (ℕ × ℕ)) (nodes : List (Option Node)) : Type 0 where
-  pub there : (c n : ℕ) → home_of homes c ≡ Some n → IsSome (node_in nodes n)
-  pub apart : (c d n : ℕ) → home_of homes c ≡ Some n → home_of homes d ≡ Some n → c ≡ d
+pub record AreNodeIndexes (homes : List (ℕ × ℕ)) (nodes : List (Option Node)) : Type 0 where
+  pub there : (c n : ℕ) → node_index_of homes c ≡ Some n → IsSome (node_in nodes n)
+  pub disjoint : (c d n : ℕ) → node_index_of homes c ≡ Some n → node_index_of homes d ≡ Some n
+      → c ≡ d
   pub own : AreOwn homes nodes
-  pub few : length homes < 2 ^ 32
+  pub bounded : length homes < 2 ^ 32
 
 -- the nodes and the ends of the chains are those of the queued waiters
 pub record AreChains (homes : List (ℕ × ℕ)) (nodes : List (Option Node))
     (queues : List (ℕ × Queue)) (es : List (ℕ × Waiter)) : Type 0 where
-  pub stand : AllStand (numbers queues) es
-  pub homed : AreHomes homes nodes
+  pub queued : AllQueued (numbers queues) es
+  pub homed : AreNodeIndexes homes nodes
   -- a client's node has the client's entry
-  pub own : (c : ℕ) → entry_of homes nodes c ≡ first_entry (filter (λ e. e.1.client == c) es)
-  pub levels : Each (λ e. (1 ≤ e.1.prio) × (e.1.prio ≤ most_priority)) es
+  pub own : (c : ℕ) → entry_of_client homes nodes c ≡ first_entry (filter (λ e. e.1.client == c) es)
+  pub levels : Each (λ e. (1 ≤ e.1.prio) × (e.1.prio ≤ max_priority)) es
   -- a queue's length is the number of its waiters
   pub len : (o : ℕ) (q : Queue) → lookup (nat_eq o) queues ≡ Some q
       → q.len ≡ length (queue_of o es)
@@ -141,7 +142,7 @@ pub record AreChains (homes : List (ℕ × ℕ)) (nodes : List (Option Node))
   pub sorted : (o : ℕ) (k : Bool) (p : ℕ)
       → queue_of o (chain_of o k p es) ≡ map (λ e. e.1) (chain_of o k p es)
   pub chains : (o : ℕ) (q : Queue) → lookup (nat_eq o) queues ≡ Some q → (k : Bool) (p : ℕ)
-      → p < most_priority
+      → p < max_priority
       → IsChain (next_in nodes) (before_in nodes) (side_of k q) p
       (nodes_of (index_of homes) (chain_of o k (p + 1) es))
 
@@ -152,57 +153,57 @@ pub record IsSameChain (old new : Side) (p : ℕ) : Type 0 where
   pub head : slice_index_or new.heads p None ≡ slice_index_or old.heads p None
 
 -- a node was made the tail of a chain
-pub record IsPut (k : Bool) (p node : ℕ) (tail : Option ℕ) (old new : Queue) : Type 0 where
+pub record IsAppended (k : Bool) (p node : ℕ) (tail : Option ℕ) (old new : Queue) : Type 0 where
   pub len : new.len ≡ old.len + 1
-  pub other : (i : ℕ) → i < most_priority
+  pub other : (i : ℕ) → i < max_priority
       → IsSameChain (side_of (not k) old) (side_of (not k) new) i
   pub last : tail ≡ slice_index_or (side_of k old).tails p None
-  pub counts : (i : ℕ) → i < most_priority → slice_index (side_of k new).counts i
+  pub counts : (i : ℕ) → i < max_priority → slice_index (side_of k new).counts i
       ≡ (if p == i then slice_index (side_of k old).counts p + 1 else slice_index
       (side_of k old).counts i)
-  pub tails : (i : ℕ) → i < most_priority → slice_index_or (side_of k new).tails i None
+  pub tails : (i : ℕ) → i < max_priority → slice_index_or (side_of k new).tails i None
       ≡ (if p == i then Some node else slice_index_or (side_of k old).tails i None)
-  pub heads : (i : ℕ) → i < most_priority → slice_index_or (side_of k new).heads i None
+  pub heads : (i : ℕ) → i < max_priority → slice_index_or (side_of k new).heads i None
       ≡ (if (p == i) && not (is_some (slice_index_or (side_of k old).tails p None))
       then Some node
       else slice_index_or (side_of k old).heads i None)
 
 -- a node was removed from a chain
-pub record IsTaken (k : Bool) (p : ℕ) (before next : Option ℕ) (old new : Queue) : Type 0 where
+pub record IsUnlinked (k : Bool) (p : ℕ) (before next : Option ℕ) (old new : Queue) : Type 0 where
   pub len : new.len + 1 ≡ old.len
-  pub other : (i : ℕ) → i < most_priority
+  pub other : (i : ℕ) → i < max_priority
       → IsSameChain (side_of (not k) old) (side_of (not k) new) i
-  pub counts : (i : ℕ) → i < most_priority → slice_index (side_of k new).counts i
+  pub counts : (i : ℕ) → i < max_priority → slice_index (side_of k new).counts i
       ≡ (if p == i then slice_index (side_of k old).counts p - 1 else slice_index
       (side_of k old).counts i)
-  pub tails : (i : ℕ) → i < most_priority → slice_index_or (side_of k new).tails i None
+  pub tails : (i : ℕ) → i < max_priority → slice_index_or (side_of k new).tails i None
       ≡ (if (p == i) && not (is_some next) then before else slice_index_or
       (side_of k old).tails i None)
-  pub heads : (i : ℕ) → i < most_priority → slice_index_or (side_of k new).heads i None
+  pub heads : (i : ℕ) → i < max_priority → slice_index_or (side_of k new).heads i None
       ≡ (if (p == i) && not (is_some before) then next else slice_index_or
       (side_of k old).heads i None)
 
 -- the queue has no waiter
 pub record HasNone (q : Queue) : Type 0 where
   pub len : q.len ≡ 0
-  pub counts : (k : Bool) (p : ℕ) → p < most_priority → slice_index (side_of k q).counts p ≡ 0
-  pub heads : (k : Bool) (p : ℕ) → p < most_priority
+  pub counts : (k : Bool) (p : ℕ) → p < max_priority → slice_index (side_of k q).counts p ≡ 0
+  pub heads : (k : Bool) (p : ℕ) → p < max_priority
       → slice_index_or (side_of k q).heads p None ≡ None
-  pub tails : (k : Bool) (p : ℕ) → p < most_priority
+  pub tails : (k : Bool) (p : ℕ) → p < max_priority
       → slice_index_or (side_of k q).tails p None ≡ None
 
 -- each chain of the queue is empty
 abbrev pub HasNoWaiter : Queue → Type 0
-HasNoWaiter q = (k : Bool) (p : ℕ) → p < most_priority → slice_index (side_of k q).counts p ≡ 0
+HasNoWaiter q = (k : Bool) (p : ℕ) → p < max_priority → slice_index (side_of k q).counts p ≡ 0
 
 -- the chain is not empty, and no chain of another kind or priority that goes ahead of it has a
 -- waiter  [XSH pthread_rwlock_unlock, 2.8.4]
 pub record IsFirstChain (q : Queue) (k : Bool) (p : ℕ) : Type 0 where
-  pub within : p < most_priority
+  pub within : p < max_priority
   pub some : slice_index (side_of k q).counts p ≢ 0
-  pub above : (l : Bool) (i : ℕ) → i < most_priority → p < i
+  pub above : (l : Bool) (i : ℕ) → i < max_priority → p < i
       → slice_index (side_of l q).counts i ≡ 0
-  pub beside : (l : Bool) → rank l < rank k → slice_index (side_of l q).counts p ≡ 0
+  pub beside : (l : Bool) → kind_rank l < kind_rank k → slice_index (side_of l q).counts p ≡ 0
 
 -- it is the head of the first chain, or none if all chains are empty
 -- [XSH pthread_rwlock_unlock, 2.8.4]
@@ -216,12 +217,12 @@ IsFirst q head =
 -- [XSH pthread_rwlock_unlock]
 abbrev pub IsFirstWriter : Queue → Option ℕ → Type 0
 IsFirstWriter q head =
-    ((p : ℕ) × (p < most_priority) × (slice_index q.writers.counts p ≢ 0)
-    × ((i : ℕ) → i < most_priority → p < i → slice_index q.writers.counts i ≡ 0)
+    ((p : ℕ) × (p < max_priority) × (slice_index q.writers.counts p ≢ 0)
+    × ((i : ℕ) → i < max_priority → p < i → slice_index q.writers.counts i ≡ 0)
     × (head ≡ slice_index_or q.writers.heads p None))
-    ⊎ (((p : ℕ) → p < most_priority → slice_index q.writers.counts p ≡ 0) × (head ≡ None))
+    ⊎ (((p : ℕ) → p < max_priority → slice_index q.writers.counts p ≡ 0) × (head ≡ None))
 
 -- a chain of writers of this priority or a higher one is not empty  [XSH pthread_rwlock_rdlock]
 abbrev pub HasWriterFrom : Queue → ℕ → Type 0
 HasWriterFrom q p =
-    (i : ℕ) × (p ≤ i) × (i < most_priority) × (slice_index q.writers.counts i ≢ 0)
+    (i : ℕ) × (p ≤ i) × (i < max_priority) × (slice_index q.writers.counts i ≢ 0)

@@ -5,7 +5,7 @@ pub mod Chains
 pub mod Highest
 -- Boxes: which queues have a box, and the number of boxes
 pub mod Boxes
--- Opened: the queues that exist, each with the chains of its row, if it has one
-pub mod Opened
+-- OpenQueues: the queues that exist, each with the chains of its row, if it has one
+pub mod OpenQueues
 -- Rows: the chains of queues, each in a slot, and the slots by the queues' numbers
 pub mod Rows

@@ -18,8 +18,8 @@ abbrev pub row_in : List (Option (ℕ × Queue)) → ℕ → Option (ℕ × Queu
 row_in slots slot = slice_index_or slots slot None
 
 -- the number of the queue whose row is in a slot
-abbrev pub number_in : List (Option (ℕ × Queue)) → ℕ → Option ℕ
-number_in slots slot = option_map (λ r. r.0) (row_in slots slot)
+abbrev pub row_number : List (Option (ℕ × Queue)) → ℕ → Option ℕ
+row_number slots slot = option_map (λ r. r.0) (row_in slots slot)
 
 -- the chains in a slot, or empty chains if it has no row
 abbrev pub chains_in : List (Option (ℕ × Queue)) → ℕ → Queue
@@ -34,12 +34,12 @@ rows_of v = rows_by v.places v.slots
 
 -- each number's row is in its slot, and there is no other row
 pub record AreRows (places : List (ℕ × ℕ)) (slots : List (Option (ℕ × Queue))) : Type 0 where
-  pub there : (o s : ℕ) → lookup (nat_eq o) places ≡ Some s → number_in slots s ≡ Some o
-  pub own : (s o : ℕ) → number_in slots s ≡ Some o → lookup (nat_eq o) places ≡ Some s
+  pub there : (o s : ℕ) → lookup (nat_eq o) places ≡ Some s → row_number slots s ≡ Some o
+  pub own : (s o : ℕ) → row_number slots s ≡ Some o → lookup (nat_eq o) places ≡ Some s
   pub once : Unique (numbers places)
 
 -- the numbers whose row is not in this slot have the same chains as before
-abbrev pub AreOthersKept : ℕ → RowsView → RowsView → Type 0
-AreOthersKept slot old new =
+abbrev pub KeepsOthers : ℕ → RowsView → RowsView → Type 0
+KeepsOthers slot old new =
     (number x : ℕ) → lookup (nat_eq number) old.places ≡ Some slot → (number == x) ≡ false
     → lookup (nat_eq x) (rows_of new) ≡ lookup (nat_eq x) (rows_of old)

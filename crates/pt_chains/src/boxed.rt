@@ -6,10 +6,11 @@ ghost use Rattle.std.specs.Prelude.{◌||◌};
 ghost use Rattle.std.specs.Prelude.{vec_len, vec_capacity, if◌then◌else◌};
 ghost use Rattle.std.specs.List.{AllByRecursion as Each};
 ghost use Rattle.std.specs.Option.{option_map};
-ghost use Rattle.pt_types.specs.Limits.{most_priority};
+ghost use Rattle.pt_types.specs.Limits.{max_priority};
 ghost use Rattle.pt_chains.specs.declared.sides.Queue.{Queue};
-ghost use Rattle.pt_chains.specs.Boxes.{no_queue, lone_queue, queue_by, IsKept, IsSame, IsEmptied};
-ghost use Rattle.pt_chains.specs.Chains.{side_of, HasNone, IsPut};
+ghost use Rattle.pt_chains.specs.Boxes.{no_queue, lone_queue, queue_by, IsBoxRule, IsSame};
+ghost use Rattle.pt_chains.specs.Boxes.{IsEmptied};
+ghost use Rattle.pt_chains.specs.Chains.{side_of, HasNone, IsAppended};
 ghost use Rattle.pt_chains.specs.Chains.{IsFirst, IsFirstWriter, HasWriterFrom};
 
 use crate::link::{Link, NodeIndex};
@@ -38,14 +39,14 @@ pub(crate) struct BoxedQueue<A: Allocator> {
 impl<A: Allocator> Model for BoxedQueue<A> {
     ghost use Rattle.std.specs.Option.{option_map};
     ghost use Rattle.pt_chains.specs.declared.sides.Queue.{Queue};
-    ghost use Rattle.pt_chains.specs.Boxes.{queue_by, IsKept};
+    ghost use Rattle.pt_chains.specs.Boxes.{queue_by, IsBoxRule};
 
     ghost Value = { Queue };
 
     ghost view = { λ q. queue_by (option_map (λ b. b.value) q.boxed) q.head q.tail q.count
         q.writer q.p };
 
-    ghost invariant = { λ q. IsKept (option_map (λ b. b.value) q.boxed) q.head q.tail q.count
+    ghost invariant = { λ q. IsBoxRule (option_map (λ b. b.value) q.boxed) q.head q.tail q.count
         q.p };
 }
 
@@ -60,11 +61,11 @@ fn put_lone<A: Allocator>(
     writer: bool,
     p: usize,
 )
-    requires index { p < most_priority }
+    requires index { p < max_priority }
     requires some { count ≢ 0 }
-    requires there { IsSome boxed.old }
+    requires exists { IsSome boxed.old }
     requires empty { IfSome boxed.old (λ b. HasNone b.value) }
-    ensures there { IsSome boxed.new }
+    ensures exists { IsSome boxed.new }
     ensures put { IfSome boxed.new (λ b.
         IsSame (lone_queue (Some head) tail count writer p) b.value) }
 {
@@ -82,11 +83,11 @@ fn join<A: Allocator>(
     writer: bool,
     p: u8,
 )
-    requires there { IsSome boxed.old }
-    requires kept { IsKept (option_map (λ b. b.value) boxed.old) head.old tail count p }
+    requires exists { IsSome boxed.old }
+    requires rule { IsBoxRule (option_map (λ b. b.value) boxed.old) head.old tail count p }
     ensures none { head.new ≡ None }
-    ensures there { IsSome boxed.new }
-    ensures same { IfSome boxed.new (λ b.
+    ensures exists { IsSome boxed.new }
+    ensures unchanged { IfSome boxed.new (λ b.
         IsSame (queue_by (option_map (λ b. b.value) boxed.old) head.old tail count writer p)
         b.value) }
     ensures some { IfSome boxed.new (λ b. b.value.len ≢ 0) }
@@ -156,12 +157,12 @@ impl<A: Allocator + Copy> BoxedQueue<A> {
         p: usize,
         node: NodeIndex,
     ) -> Link
-        requires index { p < most_priority }
+        requires index { p < max_priority }
         requires room { slice_index (side_of writer self.old).counts p + 1 < 2 ^ 32 }
         requires len { self.old.len + 1 < 2 ^ 64 }
         requires spare { self.old.len ≡ 0 → 0 < vec_len spares.old }
         requires empty { Each (λ b. HasNone b.value) spares.old.items }
-        ensures put { IsPut writer p node result self.old self.new }
+        ensures put { IsAppended writer p node result self.old self.new }
         ensures len { vec_len spares.new + (if self.old.len == 0 then 1 else 0)
             ≡ vec_len spares.old }
         ensures capacity { vec_capacity spares.new ≡ vec_capacity spares.old }
@@ -203,8 +204,8 @@ impl<A: Allocator + Copy> BoxedQueue<A> {
         before: Link,
         next: Link,
     ) -> Option<Box<MarkedQueue, A>>
-        requires index { p < most_priority }
-        requires stands { 1 ≤ slice_index (side_of writer self.old).counts p }
+        requires index { p < max_priority }
+        requires counted { 1 ≤ slice_index (side_of writer self.old).counts p }
         requires len { 1 ≤ self.old.len }
         ensures { IsEmptied writer p before next self.old self.new
             (option_map (λ b. b.value) result) }

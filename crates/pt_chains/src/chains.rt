@@ -2,8 +2,8 @@
 ghost use Rattle.std.specs.Prelude.{◌≡◌};
 ghost use Rattle.pt_waitq.specs.Waits.{no_waits};
 
-use crate::homes::Homes;
 use crate::link::Link;
+use crate::node_table::NodeTable;
 use crate::nodes::{self, Node};
 use crate::queues::{self, Queues};
 use crate::spares::{self, Spares};
@@ -18,7 +18,7 @@ use std::marker::Model;
 ///
 /// A queue counts its writers and its readers by priority.
 pub struct Chains<A: Allocator + Copy = Global> {
-    homes: Homes<A>,
+    homes: NodeTable<A>,
     nodes: Slab<Node, A>,
     queues: Queues<A>,
     /// The boxes that belong to no queue.
@@ -35,17 +35,17 @@ impl<A: Allocator + Copy> Model for Chains<A> {
     ghost use Rattle.std.specs.Prelude.{length, vec_len, vec_capacity};
     ghost use Rattle.std.specs.List.{AllByRecursion as Each};
     ghost use Rattle.pt_chains.specs.Boxes.{AreBoxes};
-    ghost use Rattle.pt_chains.specs.Chains.{numbers, waiting_by, AreChains, HasNone};
+    ghost use Rattle.pt_chains.specs.Chains.{numbers, queued_waiters, AreChains, HasNone};
 
     ghost Value = { Waits };
 
     ghost view = { λ p. waits_of (numbers p.homes.map.entries) (numbers p.queues)
-        (waiting_by p.log.items) };
+        (queued_waiters p.log.items) };
 
     ghost invariant = { λ p. AreChains p.homes.map.entries p.nodes.slots p.queues
-        (waiting_by p.log.items)
+        (queued_waiters p.log.items)
         × AreBoxes (length p.homes.map.entries) (length (numbers p.queues))
-        (waiting_by p.log.items) (vec_len p.spares) (vec_capacity p.spares) p.boxes
+        (queued_waiters p.log.items) (vec_len p.spares) (vec_capacity p.spares) p.boxes
         × Each (λ b. HasNone b.value) p.spares.items };
 }
 
@@ -69,7 +69,7 @@ impl<A: Allocator + Copy> Chains<A> {
         ensures { result ≡ no_waits }
     {
         Chains {
-            homes: Homes::new(alloc),
+            homes: NodeTable::new(alloc),
             nodes: Slab::new(alloc),
             queues: Queues::new(alloc),
             spares: Vec::new(alloc),
@@ -80,10 +80,10 @@ impl<A: Allocator + Copy> Chains<A> {
 }
 
 impl<A: Allocator + Copy> WaitList for Chains<A> {
-    ghost use Rattle.pt_waitq.specs.Waits.{seen_in};
+    ghost use Rattle.pt_waitq.specs.Waits.{queues_view};
     ghost use Rattle.pt_waitq.specs.WaitLaws.{in_order, once, one_queue, admits, makes};
 
-    ghost seen = { seen_in };
+    ghost seen = { queues_view };
 
     ghost in_order = { in_order };
 
@@ -133,7 +133,7 @@ impl<A: Allocator + Copy> WaitList for Chains<A> {
     #[inline(always)]
     fn insert(&mut self, object: ObjectId, waiter: Waiter) {
         let client = waiter.client;
-        let node = nodes::home_of(&self.homes, &self.nodes, client.0);
+        let node = nodes::node_index_of(&self.homes, &self.nodes, client.0);
         let p = waiter.prio.level() as usize - 1;
         let last = queues::insert(
             &mut self.queues,

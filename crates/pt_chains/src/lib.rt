@@ -6,9 +6,9 @@
 
 mod boxed;
 mod chains;
-mod homes;
 mod link;
 mod marked;
+mod node_table;
 mod nodes;
 mod queues;
 mod rows;

@@ -6,7 +6,7 @@ ghost use Rattle.std.specs.Prelude.{if◌then◌else◌};
 use std::marker::Model;
 
 /// The most nodes that there may be, so that the greatest number of 4 bytes is no node's index.
-pub(crate) const MOST_NODES: usize = 4294967295;
+pub(crate) const MAX_NODES: usize = 4294967295;
 
 /// The index of a node.
 #[derive(Clone, Copy)]
@@ -54,11 +54,11 @@ pub(crate) struct Link {
 
 impl Model for Link {
     ghost use Rattle.std.specs.Prelude.{ℕ, Option, ◌-◌, ◌^◌, unwrap_or};
-    ghost use Rattle.pt_chains.specs.Links.{linked};
+    ghost use Rattle.pt_chains.specs.Links.{node_with_links};
 
     ghost Value = { Option ℕ };
 
-    ghost view = { λ l. linked l.number };
+    ghost view = { λ l. node_with_links l.number };
 
     ghost inverse = { λ o. record { number = unwrap_or o (2 ^ 32 - 1) } };
 }

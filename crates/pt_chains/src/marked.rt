@@ -2,9 +2,9 @@
 
 ghost use Rattle.std.specs.Prelude.{◌≡◌, ◌≢◌, ◌↔◌, ◌+◌, ◌<◌, ◌≤◌, ◌^◌, ◌==◌, Some, max};
 ghost use Rattle.std.specs.Prelude.{IsTrue, MatchOption, None, slice_index};
-ghost use Rattle.pt_types.specs.Limits.{most_priority};
+ghost use Rattle.pt_types.specs.Limits.{max_priority};
 ghost use Rattle.pt_chains.specs.declared.sides.Queue.{Queue};
-ghost use Rattle.pt_chains.specs.Chains.{side_of, HasNone, IsPut, IsTaken};
+ghost use Rattle.pt_chains.specs.Chains.{side_of, HasNone, IsAppended, IsUnlinked};
 ghost use Rattle.pt_chains.specs.Chains.{IsFirst, IsFirstWriter, HasWriterFrom};
 ghost use Rattle.pt_chains.specs.Boxes.{IsLone};
 ghost use Rattle.pt_chains.specs.Highest.{IsBound, IsHighestChain};
@@ -12,7 +12,7 @@ ghost use Rattle.pt_chains.specs.Highest.{IsBound, IsHighestChain};
 use crate::link::{Link, NodeIndex};
 use crate::sides::{self, Queue};
 use pt_lanes::highest;
-use pt_types::MOST_PRIORITY;
+use pt_types::MAX_PRIORITY;
 use std::marker::Model;
 
 /// A queue with its highest chains, so that its first waiter is found without a search. While no
@@ -48,7 +48,7 @@ fn raised(before: Option<usize>, p: usize) -> Option<usize>
 }
 
 // Returns the index of the highest chain after a waiter was removed. Until then it was `before`.
-fn lowered(counts: &[u32; MOST_PRIORITY], before: Option<usize>) -> Option<usize>
+fn lowered(counts: &[u32; MAX_PRIORITY], before: Option<usize>) -> Option<usize>
     requires { IsBound counts.now before }
     ensures { IsHighestChain counts.now result }
 {
@@ -83,11 +83,11 @@ impl MarkedQueue {
 
     /// Makes a node the tail of one of the queue's chains, and returns the previous tail.
     pub(crate) fn put_in(&mut self, writer: bool, p: usize, node: NodeIndex) -> Link
-        requires index { p < most_priority }
+        requires index { p < max_priority }
         requires room { slice_index (side_of writer self.old).counts p + 1 < 2 ^ 32 }
         requires len { self.old.len + 1 < 2 ^ 64 }
         requires empty { self.old.len ≡ 0 → HasNone self.old }
-        ensures { IsPut writer p node result self.old self.new }
+        ensures { IsAppended writer p node result self.old self.new }
     {
         if self.queue.len == 0 {
             self.writer = None;
@@ -103,7 +103,7 @@ impl MarkedQueue {
 
     /// Puts a chain with these ends into a queue with no waiter.
     pub(crate) fn put_chain(&mut self, head: Link, tail: Link, count: u32, writer: bool, p: usize)
-        requires index { p < most_priority }
+        requires index { p < max_priority }
         requires some { count ≢ 0 }
         requires empty { HasNone self.old }
         ensures { IsLone writer p head tail count self.new }
@@ -117,10 +117,10 @@ impl MarkedQueue {
     /// waiter is left.
     #[inline(always)]
     pub(crate) fn take_out(&mut self, writer: bool, p: usize, before: Link, next: Link) -> bool
-        requires index { p < most_priority }
-        requires stands { 1 ≤ slice_index (side_of writer self.old).counts p }
+        requires index { p < max_priority }
+        requires counted { 1 ≤ slice_index (side_of writer self.old).counts p }
         requires len { 1 ≤ self.old.len }
-        ensures taken { IsTaken writer p before next self.old self.new }
+        ensures taken { IsUnlinked writer p before next self.old self.new }
         ensures last { result ≡ (self.new.len == 0) }
     {
         sides::take_out(&mut self.queue, writer, p, before, next);

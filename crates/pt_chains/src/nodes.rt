@@ -10,10 +10,11 @@ ghost use Rattle.std.specs.HashMap.{spare};
 ghost use Rattle.slab.specs.Slab.{HasRoomFor};
 ghost use Rattle.pt_waitq.specs.declared.waiter.Waiter.{Waiter};
 ghost use Rattle.pt_chains.specs.Chains.{numbers, is_at, node_in, next_in, before_in, entry_in};
-ghost use Rattle.pt_chains.specs.Chains.{home_of, entry_of, entry_at, client_in, AreOwn, AreHomes};
+ghost use Rattle.pt_chains.specs.Chains.{node_index_of, entry_of_client, entry_at, client_of_node};
+ghost use Rattle.pt_chains.specs.Chains.{AreOwn, AreNodeIndexes};
 
-use crate::homes::Homes;
-use crate::link::{Link, MOST_NODES, NodeIndex};
+use crate::link::{Link, MAX_NODES, NodeIndex};
+use crate::node_table::NodeTable;
 use pt_types::{ClientId, Priority};
 use pt_waitq::Waiter;
 use slab::Slab;
@@ -43,13 +44,13 @@ pub(crate) struct Place {
 /// Sets the link from a node to the next one.
 pub(crate) fn set_next<A: Allocator + Copy>(nodes: &mut Slab<Node, A>, node: NodeIndex, next: Link)
     requires { IsSome (node_in nodes.old.slots node) }
-    ensures there { (n : ℕ)
+    ensures exists { (n : ℕ)
         → is_some (node_in nodes.new.slots n) ≡ is_some (node_in nodes.old.slots n) }
     ensures next { (n : ℕ)
         → next_in nodes.new.slots n ≡ (if node == n then next else next_in nodes.old.slots n) }
     ensures before { (n : ℕ) → before_in nodes.new.slots n ≡ before_in nodes.old.slots n }
     ensures entry { (n : ℕ) → entry_in nodes.new.slots n ≡ entry_in nodes.old.slots n }
-    ensures client { (n : ℕ) → client_in nodes.new.slots n ≡ client_in nodes.old.slots n }
+    ensures client { (n : ℕ) → client_of_node nodes.new.slots n ≡ client_of_node nodes.old.slots n }
 {
     nodes.get_mut(node.get()).unwrap().next = next;
 }
@@ -61,14 +62,14 @@ pub(crate) fn set_before<A: Allocator + Copy>(
     before: Link,
 )
     requires { IsSome (node_in nodes.old.slots node) }
-    ensures there { (n : ℕ)
+    ensures exists { (n : ℕ)
         → is_some (node_in nodes.new.slots n) ≡ is_some (node_in nodes.old.slots n) }
     ensures next { (n : ℕ) → next_in nodes.new.slots n ≡ next_in nodes.old.slots n }
     ensures before { (n : ℕ)
         → before_in nodes.new.slots n
         ≡ (if node == n then before else before_in nodes.old.slots n) }
     ensures entry { (n : ℕ) → entry_in nodes.new.slots n ≡ entry_in nodes.old.slots n }
-    ensures client { (n : ℕ) → client_in nodes.new.slots n ≡ client_in nodes.old.slots n }
+    ensures client { (n : ℕ) → client_of_node nodes.new.slots n ≡ client_of_node nodes.old.slots n }
 {
     nodes.get_mut(node.get()).unwrap().before = before;
 }
@@ -76,7 +77,7 @@ pub(crate) fn set_before<A: Allocator + Copy>(
 /// Replaces a node.
 pub(crate) fn set_node<A: Allocator + Copy>(nodes: &mut Slab<Node, A>, node: NodeIndex, value: Node)
     requires { IsSome (node_in nodes.old.slots node) }
-    ensures there { (n : ℕ)
+    ensures exists { (n : ℕ)
         → is_some (node_in nodes.new.slots n) ≡ is_some (node_in nodes.old.slots n) }
     ensures next { (n : ℕ)
         → next_in nodes.new.slots n
@@ -88,8 +89,8 @@ pub(crate) fn set_node<A: Allocator + Copy>(nodes: &mut Slab<Node, A>, node: Nod
         → entry_in nodes.new.slots n
         ≡ (if node == n then entry_at value else entry_in nodes.old.slots n) }
     ensures client { (n : ℕ)
-        → client_in nodes.new.slots n
-        ≡ (if node == n then Some value.waiter.client else client_in nodes.old.slots n) }
+        → client_of_node nodes.new.slots n
+        ≡ (if node == n then Some value.waiter.client else client_of_node nodes.old.slots n) }
 {
     *nodes.get_mut(node.get()).unwrap() = value;
 }
@@ -97,7 +98,7 @@ pub(crate) fn set_node<A: Allocator + Copy>(nodes: &mut Slab<Node, A>, node: Nod
 /// Marks a node as being in no chain.
 fn clear<A: Allocator + Copy>(nodes: &mut Slab<Node, A>, node: NodeIndex)
     requires { IsSome (node_in nodes.old.slots node) }
-    ensures there { (n : ℕ)
+    ensures exists { (n : ℕ)
         → is_some (node_in nodes.new.slots n) ≡ is_some (node_in nodes.old.slots n) }
     ensures next { (n : ℕ)
         → next_in nodes.new.slots n ≡ (if node == n then None else next_in nodes.old.slots n) }
@@ -105,7 +106,7 @@ fn clear<A: Allocator + Copy>(nodes: &mut Slab<Node, A>, node: NodeIndex)
         → before_in nodes.new.slots n ≡ (if node == n then None else before_in nodes.old.slots n) }
     ensures entry { (n : ℕ)
         → entry_in nodes.new.slots n ≡ (if node == n then None else entry_in nodes.old.slots n) }
-    ensures client { (n : ℕ) → client_in nodes.new.slots n ≡ client_in nodes.old.slots n }
+    ensures client { (n : ℕ) → client_of_node nodes.new.slots n ≡ client_of_node nodes.old.slots n }
 {
     let node = nodes.get_mut(node.get()).unwrap();
     node.object = None;
@@ -133,9 +134,9 @@ pub(crate) fn insert<A: Allocator + Copy>(
     node: NodeIndex,
     entry: (u64, Waiter),
 )
-    requires there { IsSome (node_in nodes.old.slots node) }
+    requires exists { IsSome (node_in nodes.old.slots node) }
     requires last { IfSome last (λ l. IsSome (node_in nodes.old.slots l)) }
-    ensures there { (n : ℕ)
+    ensures exists { (n : ℕ)
         → is_some (node_in nodes.new.slots n) ≡ is_some (node_in nodes.old.slots n) }
     ensures next { (n : ℕ)
         → next_in nodes.new.slots n
@@ -148,8 +149,8 @@ pub(crate) fn insert<A: Allocator + Copy>(
         → entry_in nodes.new.slots n
         ≡ (if node == n then Some entry else entry_in nodes.old.slots n) }
     ensures client { (n : ℕ)
-        → client_in nodes.new.slots n
-        ≡ (if node == n then Some entry.1.client else client_in nodes.old.slots n) }
+        → client_of_node nodes.new.slots n
+        ≡ (if node == n then Some entry.1.client else client_of_node nodes.old.slots n) }
 {
     if let Some(l) = last.get() {
         set_next(nodes, l, Link::to(node));
@@ -170,10 +171,10 @@ pub(crate) fn remove<A: Allocator + Copy>(
     before: Link,
     next: Link,
 )
-    requires there { IsSome (node_in nodes.old.slots node) }
+    requires exists { IsSome (node_in nodes.old.slots node) }
     requires before { IfSome before (λ n. IsSome (node_in nodes.old.slots n)) }
     requires next { IfSome next (λ n. IsSome (node_in nodes.old.slots n)) }
-    ensures there { (n : ℕ)
+    ensures exists { (n : ℕ)
         → is_some (node_in nodes.new.slots n) ≡ is_some (node_in nodes.old.slots n) }
     ensures next { (n : ℕ)
         → next_in nodes.new.slots n
@@ -187,7 +188,7 @@ pub(crate) fn remove<A: Allocator + Copy>(
         else if is_at n next then before else before_in nodes.old.slots n) }
     ensures entry { (n : ℕ)
         → entry_in nodes.new.slots n ≡ (if node == n then None else entry_in nodes.old.slots n) }
-    ensures client { (n : ℕ) → client_in nodes.new.slots n ≡ client_in nodes.old.slots n }
+    ensures client { (n : ℕ) → client_of_node nodes.new.slots n ≡ client_of_node nodes.old.slots n }
 {
     if let Some(n) = before.get() {
         set_next(nodes, n, next);
@@ -201,15 +202,15 @@ pub(crate) fn remove<A: Allocator + Copy>(
 // Returns the node whose index is the distance of the client's number above the first one, if it is
 // the client's node.
 fn node_by_distance<A: Allocator + Copy>(
-    homes: &Homes<A>,
+    homes: &NodeTable<A>,
     nodes: &Slab<Node, A>,
     client: u64,
 ) -> Option<NodeIndex>
-    ensures { IfSome result (λ n. client_in nodes.now.slots n ≡ Some client) }
+    ensures { IfSome result (λ n. client_of_node nodes.now.slots n ≡ Some client) }
 {
     let distance = homes.distance_of(client);
     match nodes.get(distance) {
-        Some(node) if node.waiter.client.0 == client && distance < MOST_NODES => {
+        Some(node) if node.waiter.client.0 == client && distance < MAX_NODES => {
             Some(NodeIndex::new(distance))
         }
         _ => None,
@@ -219,8 +220,8 @@ fn node_by_distance<A: Allocator + Copy>(
 // Returns the node of a client, looked up in the map.
 #[cold]
 #[inline(never)]
-fn node_by_number<A: Allocator + Copy>(homes: &Homes<A>, client: u64) -> Option<NodeIndex>
-    ensures { result ≡ home_of homes.now.map.entries client }
+fn node_by_number<A: Allocator + Copy>(homes: &NodeTable<A>, client: u64) -> Option<NodeIndex>
+    ensures { result ≡ node_index_of homes.now.map.entries client }
 {
     homes.map.get(&client).copied()
 }
@@ -228,12 +229,12 @@ fn node_by_number<A: Allocator + Copy>(homes: &Homes<A>, client: u64) -> Option<
 // Returns the node of a client, if it has one. If the numbers of clients follow one another, a node
 // is found by the distance of the number, without a look-up in the map.
 fn node_of<A: Allocator + Copy>(
-    homes: &Homes<A>,
+    homes: &NodeTable<A>,
     nodes: &Slab<Node, A>,
     client: u64,
 ) -> Option<NodeIndex>
     requires { AreOwn homes.now.map.entries nodes.now.slots }
-    ensures { result ≡ home_of homes.now.map.entries client }
+    ensures { result ≡ node_index_of homes.now.map.entries client }
 {
     match node_by_distance(homes, nodes, client) {
         Some(node) => Some(node),
@@ -242,27 +243,28 @@ fn node_of<A: Allocator + Copy>(
 }
 
 /// Returns the index of a client's node. The client must have one.
-pub(crate) fn home_of<A: Allocator + Copy>(
-    homes: &Homes<A>,
+pub(crate) fn node_index_of<A: Allocator + Copy>(
+    homes: &NodeTable<A>,
     nodes: &Slab<Node, A>,
     client: u64,
 ) -> NodeIndex
     requires own { AreOwn homes.now.map.entries nodes.now.slots }
-    requires there { IsSome (home_of homes.now.map.entries client) }
-    ensures { home_of homes.now.map.entries client ≡ Some result }
+    requires exists { IsSome (node_index_of homes.now.map.entries client) }
+    ensures { node_index_of homes.now.map.entries client ≡ Some result }
 {
     node_of(homes, nodes, client).unwrap()
 }
 
 /// Returns the place at which a client waits, if it does.
 pub(crate) fn place_of<A: Allocator + Copy>(
-    homes: &Homes<A>,
+    homes: &NodeTable<A>,
     nodes: &Slab<Node, A>,
     client: u64,
 ) -> Option<Place>
-    requires { AreHomes homes.now.map.entries nodes.now.slots }
-    ensures none { IfNone result (entry_of homes.now.map.entries nodes.now.slots client ≡ None) }
-    ensures home { IfSome result (λ p. home_of homes.now.map.entries client ≡ Some p.node) }
+    requires { AreNodeIndexes homes.now.map.entries nodes.now.slots }
+    ensures none { IfNone result (entry_of_client homes.now.map.entries nodes.now.slots client
+        ≡ None) }
+    ensures home { IfSome result (λ p. node_index_of homes.now.map.entries client ≡ Some p.node) }
     ensures node { IfSome result (λ p. node_in nodes.now.slots p.node
         ≡ Some (record {
           object = Some p.object;
@@ -306,19 +308,19 @@ pub(crate) fn place_at<A: Allocator + Copy>(nodes: &Slab<Node, A>, index: NodeIn
 
 /// Makes room for one more node, unless there are too many already.
 pub(crate) fn make_room<A: Allocator + Copy>(
-    homes: &mut Homes<A>,
+    homes: &mut NodeTable<A>,
     nodes: &mut Slab<Node, A>,
 ) -> Result<(), AllocError>
     ensures homes { (d : ℕ)
-        → home_of homes.new.map.entries d ≡ home_of homes.old.map.entries d }
+        → node_index_of homes.new.map.entries d ≡ node_index_of homes.old.map.entries d }
     ensures count { length homes.new.map.entries ≡ length homes.old.map.entries }
-    ensures few { OnOk result (length homes.old.map.entries + 1 < 2 ^ 32) }
+    ensures within { OnOk result (length homes.old.map.entries + 1 < 2 ^ 32) }
     ensures nodes { nodes.new.slots ≡ nodes.old.slots }
     ensures home_room { OnOk result (0 < spare homes.new.map) }
     ensures node_room { OnOk result (HasRoomFor nodes.new 1) }
     ensures index { OnOk result (nodes.new.vacant_key < 2 ^ 32 - 1) }
 {
-    if homes.map.len() >= MOST_NODES || nodes.vacant_key() >= MOST_NODES {
+    if homes.map.len() >= MAX_NODES || nodes.vacant_key() >= MAX_NODES {
         return Err(AllocError);
     }
     homes.map.reserve(1)?;
@@ -346,7 +348,7 @@ fn idle(client: u64) -> Node
 
 /// Adds a client's node, which is in no chain, and returns its index.
 pub(crate) fn admit<A: Allocator + Copy>(
-    homes: &mut Homes<A>,
+    homes: &mut NodeTable<A>,
     nodes: &mut Slab<Node, A>,
     client: u64,
 ) -> NodeIndex
@@ -355,12 +357,12 @@ pub(crate) fn admit<A: Allocator + Copy>(
     requires node_room { HasRoomFor nodes.old 1 }
     requires index { nodes.old.vacant_key < 2 ^ 32 - 1 }
     ensures homes { (d : ℕ)
-        → home_of homes.new.map.entries d
-        ≡ (if client == d then Some result else home_of homes.old.map.entries d) }
+        → node_index_of homes.new.map.entries d
+        ≡ (if client == d then Some result else node_index_of homes.old.map.entries d) }
     ensures count { length homes.new.map.entries ≡ length homes.old.map.entries + 1 }
     ensures vacant { node_in nodes.old.slots result ≡ None }
     ensures entry { entry_in nodes.new.slots result ≡ None }
-    ensures client { client_in nodes.new.slots result ≡ Some client }
+    ensures client { client_of_node nodes.new.slots result ≡ Some client }
     ensures others { (n : ℕ)
         → n ≢ result
         → node_in nodes.new.slots n ≡ node_in nodes.old.slots n }
@@ -374,17 +376,17 @@ pub(crate) fn admit<A: Allocator + Copy>(
 
 /// Removes a client's node, if it has one.
 pub(crate) fn dismiss<A: Allocator + Copy>(
-    homes: &mut Homes<A>,
+    homes: &mut NodeTable<A>,
     nodes: &mut Slab<Node, A>,
     client: u64,
 )
     ensures homes { (d : ℕ)
-        → home_of homes.new.map.entries d
-        ≡ (if client == d then None else home_of homes.old.map.entries d) }
+        → node_index_of homes.new.map.entries d
+        ≡ (if client == d then None else node_index_of homes.old.map.entries d) }
     ensures nodes { (n : ℕ)
-        → is_at n (home_of homes.old.map.entries client) ≡ false
+        → is_at n (node_index_of homes.old.map.entries client) ≡ false
         → node_in nodes.new.slots n ≡ node_in nodes.old.slots n }
-    ensures gone { IfSome (home_of homes.old.map.entries client) (λ n.
+    ensures gone { IfSome (node_index_of homes.old.map.entries client) (λ n.
         node_in nodes.new.slots n ≡ None) }
     ensures len { length homes.new.map.entries ≤ length homes.old.map.entries }
 {

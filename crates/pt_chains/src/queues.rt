@@ -7,12 +7,12 @@ ghost use Rattle.std.specs.Prelude.{vec_len, vec_capacity};
 ghost use Rattle.std.specs.List.{AllByRecursion as Each};
 ghost use Rattle.std.specs.Map.{lookup};
 ghost use Rattle.std.specs.Option.{option_map};
-ghost use Rattle.pt_types.specs.Limits.{most_priority};
+ghost use Rattle.pt_types.specs.Limits.{max_priority};
 ghost use Rattle.pt_chains.specs.declared.sides.Queue.{Queue};
 ghost use Rattle.pt_chains.specs.Boxes.{no_queue, IsEmptied};
-ghost use Rattle.pt_chains.specs.Chains.{numbers, side_of, HasNone, IsPut, Unique, IsFirst};
+ghost use Rattle.pt_chains.specs.Chains.{numbers, side_of, HasNone, IsAppended, Unique, IsFirst};
 ghost use Rattle.pt_chains.specs.Chains.{IsFirstWriter, HasWriterFrom};
-ghost use Rattle.pt_chains.specs.Opened.{queue_at, is_open};
+ghost use Rattle.pt_chains.specs.OpenQueues.{queue_at, is_open};
 ghost use Rattle.pt_chains.specs.Rows.{rows_of};
 ghost use Rattle.pt_waitq.specs.Waits.{is_listed};
 
@@ -30,7 +30,7 @@ use std::marker::Model;
 const COUNT: usize = 4096;
 
 /// The most queues that there may be.
-const MOST_QUEUES: usize = 4294967295;
+const MAX_QUEUES: usize = 4294967295;
 
 /// The queues that exist.
 ///
@@ -40,7 +40,7 @@ const MOST_QUEUES: usize = 4294967295;
 pub(crate) struct Queues<A: Allocator + Copy> {
     rows: Rows<A>,
     /// For each value of a number's low bits, whether a queue with such a number ever had a row.
-    opened: [bool; COUNT],
+    open_flags: [bool; COUNT],
     /// The number of queues. There is room for a row of each.
     len: usize,
     /// The log of queues that were made (true) and discarded (false). Only proofs read it.
@@ -50,15 +50,15 @@ pub(crate) struct Queues<A: Allocator + Copy> {
 impl<A: Allocator + Copy> Model for Queues<A> {
     ghost use Rattle.std.specs.Prelude.{List, ℕ};
     ghost use Rattle.pt_chains.specs.declared.sides.Queue.{Queue};
-    ghost use Rattle.pt_chains.specs.Opened.{made_by, queues_by, AreQueues};
+    ghost use Rattle.pt_chains.specs.OpenQueues.{existing_by, queues_by, AreQueues};
     ghost use Rattle.pt_chains.specs.Rows.{rows_of};
 
     ghost Value = { List (ℕ × Queue) };
 
-    ghost view = { λ q. queues_by (made_by q.log.items) (rows_of q.rows) };
+    ghost view = { λ q. queues_by (existing_by q.log.items) (rows_of q.rows) };
 
-    ghost invariant = { λ q. AreQueues (made_by q.log.items) (rows_of q.rows) q.rows.room
-        q.opened q.len };
+    ghost invariant = { λ q. AreQueues (existing_by q.log.items) (rows_of q.rows) q.rows.room
+        q.open_flags q.len };
 }
 
 impl<A: Allocator + Copy> Queues<A> {
@@ -68,7 +68,7 @@ impl<A: Allocator + Copy> Queues<A> {
     {
         Queues {
             rows: Rows::new(alloc),
-            opened: [false; COUNT],
+            open_flags: [false; COUNT],
             len: 0,
             log: Log::new(),
         }
@@ -84,44 +84,46 @@ impl<A: Allocator + Copy> Queues<A> {
 }
 
 // Returns whether a queue with the same low bits of its number ever had a row.
-fn is_open(opened: &[bool; COUNT], object: u64) -> bool
-    ensures { result ≡ is_open opened.now object }
+fn is_open(open_flags: &[bool; COUNT], object: u64) -> bool
+    ensures { result ≡ is_open open_flags.now object }
 {
-    opened[object as usize % COUNT]
+    open_flags[object as usize % COUNT]
 }
 
 // Notes that the queue of a number has a row.
-fn set_open(opened: &mut [bool; COUNT], object: u64)
-    ensures own { is_open opened.new object ≡ true }
-    ensures kept { (x : ℕ) → is_open opened.old x ≡ true → is_open opened.new x ≡ true }
+fn set_open(open_flags: &mut [bool; COUNT], object: u64)
+    ensures own { is_open open_flags.new object ≡ true }
+    ensures stays_open { (x : ℕ) → is_open open_flags.old x ≡ true
+        → is_open open_flags.new x ≡ true }
 {
-    opened[object as usize % COUNT] = true;
+    open_flags[object as usize % COUNT] = true;
 }
 
 // Returns the slot of a queue's row. The row is added if the queue has none.
 fn row_slot<A: Allocator + Copy>(
     rows: &mut Rows<A>,
-    opened: &mut [bool; COUNT],
+    open_flags: &mut [bool; COUNT],
     object: u64,
 ) -> usize
     requires room { lookup (nat_eq object) (rows_of rows.old) ≡ None
         → Unique (numbers (rows_of rows.old)) → 0 < rows.old.room }
     requires noted { is_listed object (numbers (rows_of rows.old)) ≡ true
-        → is_open opened.old object ≡ true }
+        → is_open open_flags.old object ≡ true }
     ensures at { lookup (nat_eq object) rows.new.places ≡ Some result }
-    ensures same { (x : ℕ) → queue_at (rows_of rows.new) x ≡ queue_at (rows_of rows.old) x }
+    ensures unchanged { (x : ℕ) → queue_at (rows_of rows.new) x ≡ queue_at (rows_of rows.old) x }
     ensures listed { (x : ℕ) → is_listed x (numbers (rows_of rows.new))
         ≡ (is_listed x (numbers (rows_of rows.old)) || (object == x)) }
     ensures room { length (rows_of rows.old) + rows.old.room
         ≤ length (rows_of rows.new) + rows.new.room }
-    ensures own { is_open opened.new object ≡ true }
-    ensures kept { (x : ℕ) → is_open opened.old x ≡ true → is_open opened.new x ≡ true }
+    ensures own { is_open open_flags.new object ≡ true }
+    ensures stays_open { (x : ℕ) → is_open open_flags.old x ≡ true
+        → is_open open_flags.new x ≡ true }
 {
     if let Some(slot) = rows.slot_from(rows.hint(object), object) {
         return slot;
     }
     let slot = rows.add(object);
-    set_open(opened, object);
+    set_open(open_flags, object);
     slot
 }
 
@@ -132,7 +134,7 @@ fn len_far<A: Allocator + Copy>(queues: &Queues<A>, object: u64) -> usize
     ensures { result
         ≡ unwrap_or (option_map (λ q. q.len) (lookup (nat_eq object) queues.now)) 0 }
 {
-    if !is_open(&queues.opened, object) {
+    if !is_open(&queues.open_flags, object) {
         return 0;
     }
     sides::len_of(&queues.rows, object)
@@ -161,8 +163,8 @@ pub(crate) fn insert<A: Allocator + Copy>(
     p: usize,
     node: NodeIndex,
 ) -> Link
-    requires index { p < most_priority }
-    requires there { IsSome (lookup (nat_eq object) queues.old) }
+    requires index { p < max_priority }
+    requires exists { IsSome (lookup (nat_eq object) queues.old) }
     requires room { IfSome (lookup (nat_eq object) queues.old) (λ q.
         slice_index (side_of writer q).counts p + 1 < 2 ^ 32) }
     requires len { IfSome (lookup (nat_eq object) queues.old) (λ q. q.len + 1 < 2 ^ 64) }
@@ -176,14 +178,14 @@ pub(crate) fn insert<A: Allocator + Copy>(
     ensures queue { (old new : Queue)
         → lookup (nat_eq object) queues.old ≡ Some old
         → lookup (nat_eq object) queues.new ≡ Some new
-        → IsPut writer p node result old new }
+        → IsAppended writer p node result old new }
     ensures spares { (old : Queue)
         → lookup (nat_eq object) queues.old ≡ Some old
         → vec_len spares.new + (if old.len == 0 then 1 else 0) ≡ vec_len spares.old }
     ensures capacity { vec_capacity spares.new ≡ vec_capacity spares.old }
     ensures empty { Each (λ b. HasNone b.value) spares.new.items }
 {
-    let slot = row_slot(&mut queues.rows, &mut queues.opened, object);
+    let slot = row_slot(&mut queues.rows, &mut queues.open_flags, object);
     queues.rows.put_in(slot, spares, writer, p, node)
 }
 
@@ -199,9 +201,9 @@ pub(crate) fn remove<A: Allocator + Copy>(
     before: Link,
     next: Link,
 ) -> Option<Box<MarkedQueue, A>>
-    requires index { p < most_priority }
-    requires there { IsSome (lookup (nat_eq object) queues.old) }
-    requires stands { IfSome (lookup (nat_eq object) queues.old) (λ q.
+    requires index { p < max_priority }
+    requires exists { IsSome (lookup (nat_eq object) queues.old) }
+    requires counted { IfSome (lookup (nat_eq object) queues.old) (λ q.
         1 ≤ slice_index (side_of writer q).counts p) }
     requires len { IfSome (lookup (nat_eq object) queues.old) (λ q. 1 ≤ q.len) }
     ensures numbers { numbers queues.new ≡ numbers queues.old }
@@ -228,7 +230,7 @@ pub(crate) fn make<A: Allocator + Copy>(queues: &mut Queues<A>, object: u64) -> 
         → lookup (nat_eq object) queues.new ≡ Some new
         → new ≡ no_queue }
 {
-    if queues.len >= MOST_QUEUES {
+    if queues.len >= MAX_QUEUES {
         return false;
     }
     if !queues.rows.reserve(queues.len + 1) {
@@ -240,15 +242,15 @@ pub(crate) fn make<A: Allocator + Copy>(queues: &mut Queues<A>, object: u64) -> 
 }
 
 // Removes a queue's row, if a queue with the same low bits of its number ever had one.
-fn close<A: Allocator + Copy>(rows: &mut Rows<A>, opened: &[bool; COUNT], object: u64)
-    requires { is_open opened.now object ≡ false
+fn close<A: Allocator + Copy>(rows: &mut Rows<A>, open_flags: &[bool; COUNT], object: u64)
+    requires { is_open open_flags.now object ≡ false
         → lookup (nat_eq object) (rows_of rows.old) ≡ None }
     ensures rows { (x : ℕ) → lookup (nat_eq x) (rows_of rows.new)
         ≡ (if object == x then None else lookup (nat_eq x) (rows_of rows.old)) }
     ensures room { length (rows_of rows.old) + rows.old.room
         ≤ length (rows_of rows.new) + rows.new.room + 1 }
 {
-    if !is_open(opened, object) {
+    if !is_open(open_flags, object) {
         return;
     }
     rows.take(object);
@@ -261,7 +263,7 @@ pub(crate) fn discard<A: Allocator + Copy>(queues: &mut Queues<A>, object: u64)
         ≡ (if object == x then None else lookup (nat_eq x) queues.old) }
     ensures len { length queues.new ≤ length queues.old }
 {
-    close(&mut queues.rows, &queues.opened, object);
+    close(&mut queues.rows, &queues.open_flags, object);
     queues.log = queues.log.and(&false, &object);
     queues.len -= 1;
 }
@@ -274,7 +276,7 @@ pub(crate) fn first_of<A: Allocator + Copy>(queues: &Queues<A>, object: u64) -> 
         → lookup (nat_eq object) queues.now ≡ Some queue
         → IsFirst queue result }
 {
-    if !is_open(&queues.opened, object) {
+    if !is_open(&queues.open_flags, object) {
         return None;
     }
     sides::first_of(&queues.rows, object)
@@ -311,7 +313,7 @@ pub(crate) fn first_writer_of<A: Allocator + Copy>(
         → lookup (nat_eq object) queues.now ≡ Some queue
         → IsFirstWriter queue result }
 {
-    if !is_open(&queues.opened, object) {
+    if !is_open(&queues.open_flags, object) {
         return None;
     }
     sides::first_writer_of(&queues.rows, object)
@@ -328,7 +330,7 @@ pub(crate) fn has_writer_from<A: Allocator + Copy>(
         → lookup (nat_eq object) queues.now ≡ Some queue
         → IsTrue result ↔ HasWriterFrom queue p }
 {
-    if !is_open(&queues.opened, object) {
+    if !is_open(&queues.open_flags, object) {
         return false;
     }
     sides::has_writer_from(&queues.rows, object, p)

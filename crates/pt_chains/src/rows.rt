@@ -7,11 +7,11 @@ ghost use Rattle.std.specs.Bool.{OnTrue};
 ghost use Rattle.std.specs.List.{AllByRecursion as Each};
 ghost use Rattle.std.specs.Map.{lookup};
 ghost use Rattle.std.specs.Option.{option_copied, option_map};
-ghost use Rattle.pt_types.specs.Limits.{most_priority};
+ghost use Rattle.pt_types.specs.Limits.{max_priority};
 ghost use Rattle.pt_chains.specs.Boxes.{IsEmptied};
-ghost use Rattle.pt_chains.specs.Chains.{numbers, side_of, HasNone, IsPut, Unique};
-ghost use Rattle.pt_chains.specs.Opened.{queue_at};
-ghost use Rattle.pt_chains.specs.Rows.{chains_in, rows_of, AreOthersKept};
+ghost use Rattle.pt_chains.specs.Chains.{numbers, side_of, HasNone, IsAppended, Unique};
+ghost use Rattle.pt_chains.specs.OpenQueues.{queue_at};
+ghost use Rattle.pt_chains.specs.Rows.{chains_in, rows_of, KeepsOthers};
 ghost use Rattle.pt_waitq.specs.Waits.{is_listed};
 
 use crate::boxed::BoxedQueue;
@@ -172,11 +172,11 @@ impl<A: Allocator + Copy> Rows<A> {
 
     /// Makes room for this many rows in total, and returns whether there was memory for them.
     pub(crate) fn reserve(&mut self, rows: usize) -> bool
-        ensures same { (x : ℕ)
+        ensures unchanged { (x : ℕ)
             → lookup (nat_eq x) (rows_of self.new) ≡ lookup (nat_eq x) (rows_of self.old) }
         ensures len { length (rows_of self.new) ≡ length (rows_of self.old) }
         ensures more { self.old.room ≤ self.new.room }
-        ensures enough { OnTrue result (rows ≤ length (rows_of self.new) + self.new.room) }
+        ensures covers { OnTrue result (rows ≤ length (rows_of self.new) + self.new.room) }
     {
         let more = rows.saturating_sub(self.len());
         self.places.reserve(more).is_ok() && self.slots.reserve(more).is_ok()
@@ -189,7 +189,8 @@ impl<A: Allocator + Copy> Rows<A> {
         requires none { lookup (nat_eq number) (rows_of self.old) ≡ None }
         requires room { Unique (numbers (rows_of self.old)) → 0 < self.old.room }
         ensures at { lookup (nat_eq number) self.new.places ≡ Some result }
-        ensures same { (x : ℕ) → queue_at (rows_of self.new) x ≡ queue_at (rows_of self.old) x }
+        ensures unchanged { (x : ℕ) → queue_at (rows_of self.new) x
+            ≡ queue_at (rows_of self.old) x }
         ensures listed { (x : ℕ) → is_listed x (numbers (rows_of self.new))
             ≡ (is_listed x (numbers (rows_of self.old)) || (number == x)) }
         ensures room { length (rows_of self.old) + self.old.room
@@ -213,16 +214,16 @@ impl<A: Allocator + Copy> Rows<A> {
         p: usize,
         node: NodeIndex,
     ) -> Link
-        requires index { p < most_priority }
-        requires there { (number : ℕ) × (lookup (nat_eq number) self.old.places ≡ Some slot) }
+        requires index { p < max_priority }
+        requires exists { (number : ℕ) × (lookup (nat_eq number) self.old.places ≡ Some slot) }
         requires room { slice_index (side_of writer (chains_in self.old.slots slot)).counts p + 1
             < 2 ^ 32 }
         requires len { (chains_in self.old.slots slot).len + 1 < 2 ^ 64 }
         requires spare { (chains_in self.old.slots slot).len ≡ 0 → 0 < vec_len spares.old }
         requires empty { Each (λ b. HasNone b.value) spares.old.items }
         ensures places { self.new.places ≡ self.old.places }
-        ensures others { AreOthersKept slot self.old self.new }
-        ensures queue { IsPut writer p node result (chains_in self.old.slots slot)
+        ensures others { KeepsOthers slot self.old self.new }
+        ensures queue { IsAppended writer p node result (chains_in self.old.slots slot)
             (chains_in self.new.slots slot) }
         ensures more { self.new.room ≡ self.old.room }
         ensures spares { vec_len spares.new
@@ -245,12 +246,12 @@ impl<A: Allocator + Copy> Rows<A> {
         before: Link,
         next: Link,
     ) -> Option<Box<MarkedQueue, A>>
-        requires index { p < most_priority }
-        requires there { (number : ℕ) × (lookup (nat_eq number) self.old.places ≡ Some slot) }
+        requires index { p < max_priority }
+        requires exists { (number : ℕ) × (lookup (nat_eq number) self.old.places ≡ Some slot) }
         requires waits { 1 ≤ slice_index (side_of writer (chains_in self.old.slots slot)).counts p }
         requires len { 1 ≤ (chains_in self.old.slots slot).len }
         ensures places { self.new.places ≡ self.old.places }
-        ensures others { AreOthersKept slot self.old self.new }
+        ensures others { KeepsOthers slot self.old self.new }
         ensures queue { IsEmptied writer p before next (chains_in self.old.slots slot)
             (chains_in self.new.slots slot) (option_map (λ b. b.value) result) }
         ensures more { self.new.room ≡ self.old.room }

@@ -6,7 +6,7 @@ ghost use Rattle.std.specs.Prelude.{slice_index, slice_index_or, is_some, if◌t
 ghost use Rattle.std.specs.Prelude.{not, nat_eq};
 ghost use Rattle.std.specs.Map.{lookup};
 ghost use Rattle.std.specs.Option.{option_map};
-ghost use Rattle.pt_types.specs.Limits.{most_priority};
+ghost use Rattle.pt_types.specs.Limits.{max_priority};
 ghost use Rattle.pt_chains.specs.declared.sides.Queue.{Queue};
 ghost use Rattle.pt_chains.specs.Boxes.{IsEmptied};
 ghost use Rattle.pt_chains.specs.Rows.{rows_of};
@@ -16,15 +16,15 @@ ghost use Rattle.pt_chains.specs.Chains.{IsFirst, IsFirstWriter, HasWriterFrom};
 use crate::link::{Link, NodeIndex};
 use crate::marked::MarkedQueue;
 use crate::rows::Rows;
-use pt_types::MOST_PRIORITY;
+use pt_types::MAX_PRIORITY;
 use std::alloc::Allocator;
 
 /// The chains of one kind, by priority from 1 on.
 #[derive(Clone, Copy)]
 pub(crate) struct Side {
-    pub(crate) counts: [u32; MOST_PRIORITY],
-    pub(crate) heads: [Link; MOST_PRIORITY],
-    pub(crate) tails: [Link; MOST_PRIORITY],
+    pub(crate) counts: [u32; MAX_PRIORITY],
+    pub(crate) heads: [Link; MAX_PRIORITY],
+    pub(crate) tails: [Link; MAX_PRIORITY],
 }
 
 /// A queue's chains of both kinds.
@@ -37,33 +37,33 @@ pub(crate) struct Queue {
 
 /// Creates empty chains of one kind.
 pub(crate) fn no_side() -> Side
-    ensures counts { (p : ℕ) → p < most_priority → slice_index result.counts p ≡ 0 }
-    ensures heads { (p : ℕ) → p < most_priority → slice_index_or result.heads p None ≡ None }
-    ensures tails { (p : ℕ) → p < most_priority → slice_index_or result.tails p None ≡ None }
+    ensures counts { (p : ℕ) → p < max_priority → slice_index result.counts p ≡ 0 }
+    ensures heads { (p : ℕ) → p < max_priority → slice_index_or result.heads p None ≡ None }
+    ensures tails { (p : ℕ) → p < max_priority → slice_index_or result.tails p None ≡ None }
 {
     let nowhere = Link::none();
     Side {
-        counts: [0; MOST_PRIORITY],
-        heads: [nowhere; MOST_PRIORITY],
-        tails: [nowhere; MOST_PRIORITY],
+        counts: [0; MAX_PRIORITY],
+        heads: [nowhere; MAX_PRIORITY],
+        tails: [nowhere; MAX_PRIORITY],
     }
 }
 
 /// Makes a node the tail of a chain, and returns the previous tail.
 pub(crate) fn add(side: &mut Side, p: usize, node: NodeIndex) -> Link
-    requires index { p < most_priority }
+    requires index { p < max_priority }
     requires room { slice_index side.old.counts p + 1 < 2 ^ 32 }
     ensures last { result ≡ slice_index_or side.old.tails p None }
     ensures counts { (i : ℕ)
-        → i < most_priority
+        → i < max_priority
         → slice_index side.new.counts i
         ≡ (if p == i then slice_index side.old.counts p + 1 else slice_index side.old.counts i) }
     ensures tails { (i : ℕ)
-        → i < most_priority
+        → i < max_priority
         → slice_index_or side.new.tails i None
         ≡ (if p == i then Some node else slice_index_or side.old.tails i None) }
     ensures heads { (i : ℕ)
-        → i < most_priority
+        → i < max_priority
         → slice_index_or side.new.heads i None
         ≡ (if (p == i) && not (is_some (slice_index_or side.old.tails p None))
         then Some node
@@ -81,20 +81,20 @@ pub(crate) fn add(side: &mut Side, p: usize, node: NodeIndex) -> Link
 
 /// Removes the node between these two from a chain.
 pub(crate) fn take(side: &mut Side, p: usize, before: Link, next: Link)
-    requires index { p < most_priority }
-    requires stands { 1 ≤ slice_index side.old.counts p }
+    requires index { p < max_priority }
+    requires counted { 1 ≤ slice_index side.old.counts p }
     ensures counts { (i : ℕ)
-        → i < most_priority
+        → i < max_priority
         → slice_index side.new.counts i
         ≡ (if p == i then slice_index side.old.counts p - 1 else slice_index side.old.counts i) }
     ensures tails { (i : ℕ)
-        → i < most_priority
+        → i < max_priority
         → slice_index_or side.new.tails i None
         ≡ (if (p == i) && not (is_some next)
         then before
         else slice_index_or side.old.tails i None) }
     ensures heads { (i : ℕ)
-        → i < most_priority
+        → i < max_priority
         → slice_index_or side.new.heads i None
         ≡ (if (p == i) && not (is_some before)
         then next
@@ -111,24 +111,24 @@ pub(crate) fn take(side: &mut Side, p: usize, before: Link, next: Link)
 
 /// Makes a node the tail of one of a queue's chains, and returns the previous tail.
 pub(crate) fn put_in(queue: &mut Queue, writer: bool, p: usize, node: NodeIndex) -> Link
-    requires index { p < most_priority }
+    requires index { p < max_priority }
     requires room { slice_index (side_of writer queue.old).counts p + 1 < 2 ^ 32 }
     requires len { queue.old.len + 1 < 2 ^ 64 }
     ensures len { queue.new.len ≡ queue.old.len + 1 }
     ensures other { side_of (not writer) queue.new ≡ side_of (not writer) queue.old }
     ensures last { result ≡ slice_index_or (side_of writer queue.old).tails p None }
     ensures counts { (i : ℕ)
-        → i < most_priority
+        → i < max_priority
         → slice_index (side_of writer queue.new).counts i
         ≡ (if p == i
         then slice_index (side_of writer queue.old).counts p + 1
         else slice_index (side_of writer queue.old).counts i) }
     ensures tails { (i : ℕ)
-        → i < most_priority
+        → i < max_priority
         → slice_index_or (side_of writer queue.new).tails i None
         ≡ (if p == i then Some node else slice_index_or (side_of writer queue.old).tails i None) }
     ensures heads { (i : ℕ)
-        → i < most_priority
+        → i < max_priority
         → slice_index_or (side_of writer queue.new).heads i None
         ≡ (if (p == i) && not (is_some (slice_index_or (side_of writer queue.old).tails p None))
         then Some node
@@ -144,25 +144,25 @@ pub(crate) fn put_in(queue: &mut Queue, writer: bool, p: usize, node: NodeIndex)
 
 /// Removes the node between these two from one of a queue's chains.
 pub(crate) fn take_out(queue: &mut Queue, writer: bool, p: usize, before: Link, next: Link)
-    requires index { p < most_priority }
-    requires stands { 1 ≤ slice_index (side_of writer queue.old).counts p }
+    requires index { p < max_priority }
+    requires counted { 1 ≤ slice_index (side_of writer queue.old).counts p }
     requires len { 1 ≤ queue.old.len }
     ensures len { queue.new.len + 1 ≡ queue.old.len }
     ensures other { side_of (not writer) queue.new ≡ side_of (not writer) queue.old }
     ensures counts { (i : ℕ)
-        → i < most_priority
+        → i < max_priority
         → slice_index (side_of writer queue.new).counts i
         ≡ (if p == i
         then slice_index (side_of writer queue.old).counts p - 1
         else slice_index (side_of writer queue.old).counts i) }
     ensures tails { (i : ℕ)
-        → i < most_priority
+        → i < max_priority
         → slice_index_or (side_of writer queue.new).tails i None
         ≡ (if (p == i) && not (is_some next)
         then before
         else slice_index_or (side_of writer queue.old).tails i None) }
     ensures heads { (i : ℕ)
-        → i < most_priority
+        → i < max_priority
         → slice_index_or (side_of writer queue.new).heads i None
         ≡ (if (p == i) && not (is_some before)
         then next
@@ -178,17 +178,17 @@ pub(crate) fn take_out(queue: &mut Queue, writer: bool, p: usize, before: Link, 
 
 // Sets the ends and the count of a chain.
 fn set_chain(side: &mut Side, p: usize, head: Link, tail: Link, count: u32)
-    requires index { p < most_priority }
+    requires index { p < max_priority }
     ensures counts { (i : ℕ)
-        → i < most_priority
+        → i < max_priority
         → slice_index side.new.counts i
         ≡ (if p == i then count else slice_index side.old.counts i) }
     ensures tails { (i : ℕ)
-        → i < most_priority
+        → i < max_priority
         → slice_index_or side.new.tails i None
         ≡ (if p == i then tail else slice_index_or side.old.tails i None) }
     ensures heads { (i : ℕ)
-        → i < most_priority
+        → i < max_priority
         → slice_index_or side.new.heads i None
         ≡ (if p == i then head else slice_index_or side.old.heads i None) }
 {
@@ -206,19 +206,19 @@ pub(crate) fn put_chain(
     writer: bool,
     p: usize,
 )
-    requires index { p < most_priority }
+    requires index { p < max_priority }
     ensures len { queue.new.len ≡ count }
     ensures other { side_of (not writer) queue.new ≡ side_of (not writer) queue.old }
     ensures counts { (i : ℕ)
-        → i < most_priority
+        → i < max_priority
         → slice_index (side_of writer queue.new).counts i
         ≡ (if p == i then count else slice_index (side_of writer queue.old).counts i) }
     ensures tails { (i : ℕ)
-        → i < most_priority
+        → i < max_priority
         → slice_index_or (side_of writer queue.new).tails i None
         ≡ (if p == i then tail else slice_index_or (side_of writer queue.old).tails i None) }
     ensures heads { (i : ℕ)
-        → i < most_priority
+        → i < max_priority
         → slice_index_or (side_of writer queue.new).heads i None
         ≡ (if p == i then head else slice_index_or (side_of writer queue.old).heads i None) }
 {
@@ -265,9 +265,9 @@ pub(crate) fn remove<A: Allocator + Copy>(
     before: Link,
     next: Link,
 ) -> Option<Box<MarkedQueue, A>>
-    requires index { p < most_priority }
-    requires there { IsSome (lookup (nat_eq object) (rows_of queues.old)) }
-    requires stands { IfSome (lookup (nat_eq object) (rows_of queues.old)) (λ q.
+    requires index { p < max_priority }
+    requires exists { IsSome (lookup (nat_eq object) (rows_of queues.old)) }
+    requires counted { IfSome (lookup (nat_eq object) (rows_of queues.old)) (λ q.
         1 ≤ slice_index (side_of writer q).counts p) }
     requires len { IfSome (lookup (nat_eq object) (rows_of queues.old)) (λ q. 1 ≤ q.len) }
     ensures numbers { numbers (rows_of queues.new) ≡ numbers (rows_of queues.old) }

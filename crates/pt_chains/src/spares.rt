@@ -31,10 +31,10 @@ pub(crate) fn grow<A: Allocator + Copy>(
     requires room { boxes ≤ vec_capacity spares.old }
     requires len { vec_len spares.old ≤ boxes }
     requires empty { Each (λ b. HasNone b.value) spares.old.items }
-    ensures enough { IfOk result (λ n. wanted ≤ n) }
+    ensures covers { IfOk result (λ n. wanted ≤ n) }
     ensures room { IfOk result (λ n. n ≤ vec_capacity spares.new) }
     ensures len { IfOk result (λ n. n + vec_len spares.old ≡ boxes + vec_len spares.new) }
-    ensures still { OnErr result (vec_len spares.new ≡ vec_len spares.old) }
+    ensures unchanged { OnErr result (vec_len spares.new ≡ vec_len spares.old) }
     ensures capacity { vec_capacity spares.old ≤ vec_capacity spares.new }
     ensures empty { Each (λ b. HasNone b.value) spares.new.items }
 {

@@ -9,10 +9,11 @@ use Rattle.pt_grammar.specs.declared.script_line.ScriptLine.{ScriptLine}
 use Rattle.pt_types.specs.declared.outcome.Refusal.{Refusal}
 use Rattle.pt_model.specs.declared.entry.Event.{Event}
 use Rattle.pt_engine.specs.declared.line_id.LineId.{LineId}
-use Rattle.pt_engine.specs.Scripts.{Script, begun, line_id, event_of_line}
-use Rattle.pt_engine.specs.Says.{Says, SaysOf, SaysTo, counted, refuses, accepts}
+use Rattle.pt_engine.specs.Scripts.{Script, empty_script, line_id, event_of_line}
+use Rattle.pt_engine.specs.LineAnswers.{AnswersLine, AnswersEvent, AnswersRequest, count_line, refuses}
+use Rattle.pt_engine.specs.LineAnswers.{accepts}
 use Rattle.pt_engine.proofs.Runs.{says_seen}
-use Rattle.pt_script.specs.Laws.{SaysToMet, SaysMet, refused, unmet, accepted}
+use Rattle.pt_script.specs.Laws.{AnswersRequestIf, AnswersEventIf, refused, unmet, accepted}
 use Rattle.pt_traces.specs.Rows.{rows}
 use Rattle.pt_traces.specs.Blocks.{SeenBlock, blocks}
 use Rattle.pt_traces.proofs.RowLemmas.{rows-few}
@@ -34,20 +35,20 @@ compared_none s all known same = record { done = []; parts = refl; count = refl;
 
 -- what the rules answer without lack of memory may be written
 met_of : (s : Script) (v : Event) (line : LineId) (next : Script) (text : List ℕ)
-    → SaysMet false s v line next text → SaysOf s v line next text
+    → AnswersEventIf false s v line next text → AnswersEvent s v line next text
 met_of s v line next text (refused r) = refuses r
 met_of s v line next text (unmet is u) = absurd (let same = is in cc)
 met_of s v line next text (accepted n a) = accepts a
 
 met_to : (s : Script) (line : LineId) (r : Result Event Refusal) (next : Script) (text : List ℕ)
-    → SaysToMet false s line r next text → SaysTo s line r next text
+    → AnswersRequestIf false s line r next text → AnswersRequest s line r next text
 met_to s line (Err why) next text met = met
 met_to s line (Ok v) next text met = met_of s v line next text met
 
 pub met_says : (s : Script) (line : ScriptLine) (next : Script) (text : List ℕ)
-    → Met s line next text → Says s line next text
+    → Met s line next text → AnswersLine s line next text
 met_says s line next text met =
-    met_to (counted s line.who) (line_id s line.who) (event_of_line s line) next text met
+    met_to (count_line s line.who) (line_id s line.who) (event_of_line s line) next text met
 
 -- as many more lines were seen as there are blocks
 agrees_seen : (s : Script) (bs : List SeenBlock) (last : Script) → AgreesFrom s bs last
@@ -75,10 +76,10 @@ agrees_more s (x ∷ bs) mid b last due agree met same = (
 )
 
 pub compared_few : (all left : List SeenBlock) (at : ℕ) (known : Script) (b : SeenBlock)
-    (more : List SeenBlock) → length all < 2 ^ 53 → AreCompared begun all left at known
+    (more : List SeenBlock) → length all < 2 ^ 53 → AreCompared empty_script all left at known
     → left ≡ b ∷ more → (length known.seen ≡ at) × (at < length all)
 compared_few all left at known b more few compared is =
-    let seen = agrees_seen begun compared.done known compared.agree in
+    let seen = agrees_seen empty_script compared.done known compared.agree in
     let parts = ap length compared.parts ∙ length-append compared.done left in
     let some = ap length is in
     (omega (arith, seen, compared.count), omega (arith, parts, some, compared.count))

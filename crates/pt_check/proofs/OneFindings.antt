@@ -5,8 +5,8 @@ use Rattle.std.proofs.Common.{arith}
 use Rattle.std.proofs.Math.Seq.{drop-append_seam}
 use Rattle.pt_grammar.specs.declared.script_line.ScriptLine.{ScriptLine}
 use Rattle.pt_grammar.specs.Script.{script_of}
-use Rattle.pt_engine.specs.Scripts.{Script, begun}
-use Rattle.pt_script.specs.Laws.{OneText, SaysAllMet}
+use Rattle.pt_engine.specs.Scripts.{Script, empty_script}
+use Rattle.pt_script.specs.Laws.{OneText, AnswersLinesIf}
 use Rattle.pt_traces.specs.Blocks.{SeenBlock}
 use Rattle.pt_check.specs.declared.found.Found.{Found}
 use Rattle.pt_check.specs.declared.found.Found.TheVariants.{Agrees, Differs}
@@ -24,11 +24,11 @@ never k = false
 -- some blocks, followed by a line
 abbrev Follows : Script → List SeenBlock → List ℕ → ScriptLine → Script → List ℕ → Type 0
 Follows s bs text line next due =
-    SaysAllMet never s (lines_of bs ++ line ∷ []) next (text ++ due)
+    AnswersLinesIf never s (lines_of bs ++ line ∷ []) next (text ++ due)
 
 record Run (s : Script) (bs : List SeenBlock) (mid : Script) : Type 0 where
   pub text : List ℕ
-  pub says : SaysAllMet never s (lines_of bs) mid text
+  pub says : AnswersLinesIf never s (lines_of bs) mid text
   pub more :
       (line : ScriptLine) (next : Script) (due : List ℕ) → Met mid line next due
       → Follows s bs text line next due
@@ -67,10 +67,11 @@ run_of s (b ∷ bs) mid agree =
 
 -- what is due to a line after the same blocks is the same
 one_due : OneText → (bs : List SeenBlock) (line : ScriptLine) (a b x y : Script) (d e : List ℕ)
-    → AgreesFrom begun bs a → AgreesFrom begun bs b → Met a line x d → Met b line y e → d ≡ e
+    → AgreesFrom empty_script bs a → AgreesFrom empty_script bs b → Met a line x d → Met b line y e
+    → d ≡ e
 one_due law bs line a b x y d e p q met other =
-    let run = run_of begun bs a p in
-    let run2 = run_of begun bs b q in
+    let run = run_of empty_script bs a p in
+    let run2 = run_of empty_script bs b q in
     let one = law never (lines_of bs) in
     let front : run.text ≡ run2.text =
     (one.one a run.text run.says).1 ∙ sym (one.one b run2.text run2.says).1 in
@@ -114,11 +115,11 @@ among s (x ∷ before) b more last agree =
     }
 
 -- a block that differs is not among blocks that agree
-clash : OneText → (bs : List SeenBlock) (at : ℕ) (d : IsFirstDifference begun bs at)
+clash : OneText → (bs : List SeenBlock) (at : ℕ) (d : IsFirstDifference empty_script bs at)
     (more : List SeenBlock) (last : Script)
-    → AgreesFrom begun (d.before ++ d.block ∷ more) last → ⊥
+    → AgreesFrom empty_script (d.before ++ d.block ∷ more) last → ⊥
 clash law bs at d more last agree =
-    let here = among begun d.before d.block more last agree in
+    let here = among empty_script d.before d.block more last agree in
     let same =
     one_due law d.before (script_of d.block.line) here.mid d.last here.next d.next here.due d.due
     here.agree d.agree here.met d.met in
@@ -138,11 +139,11 @@ take_front [] more = refl
 take_front (x ∷ front) more = ap (λ ys. x ∷ ys) (take_front front more)
 
 -- nothing differs before the first difference
-later : OneText → (bs : List SeenBlock) (a b : ℕ) → IsFirstDifference begun bs a
-    → IsFirstDifference begun bs b → a < b → ⊥
+later : OneText → (bs : List SeenBlock) (a b : ℕ) → IsFirstDifference empty_script bs a
+    → IsFirstDifference empty_script bs b → a < b → ⊥
 later law bs a b d e lt =
     clash law bs a d (take (b - suc a) d.more) e.last
-    (subst (λ ys. AgreesFrom begun ys e.last) same e.agree)
+    (subst (λ ys. AgreesFrom empty_script ys e.last) same e.agree)
   where
     count : length e.before ≡ length d.before + suc (b - suc a)
     count = omega (arith, d.count, e.count, lt)
@@ -153,10 +154,10 @@ later law bs a b d e lt =
         ∙ ap (take (length e.before)) (sym e.parts ∙ d.parts)
         ∙ take_past d.before d.block d.more (length e.before) (b - suc a) count
 
-whole : OneText → (bs : List SeenBlock) (at : ℕ) (last : Script) → AgreesFrom begun bs last
-    → IsFirstDifference begun bs at → ⊥
+whole : OneText → (bs : List SeenBlock) (at : ℕ) (last : Script) → AgreesFrom empty_script bs last
+    → IsFirstDifference empty_script bs at → ⊥
 whole law bs at last agree d =
-    clash law bs at d d.more last (subst (λ ys. AgreesFrom begun ys last) d.parts agree)
+    clash law bs at d d.more last (subst (λ ys. AgreesFrom empty_script ys last) d.parts agree)
 
 by_order : (a b : ℕ) → (a < b → ⊥) → (b < a → ⊥) → a ≡ b
 by_order zero zero f g = refl
@@ -165,8 +166,8 @@ by_order (suc a) zero f g = absurd (g (omega arith))
 by_order (suc a) (suc b) f g =
     ap suc (by_order a b (λ lt. f (omega (arith, lt))) (λ lt. g (omega (arith, lt))))
 
-pub one_finding : OneText → (bs : List SeenBlock) (f g : Found) → Finds f begun bs
-    → Finds g begun bs → f ≡ g
+pub one_finding : OneText → (bs : List SeenBlock) (f g : Found) → Finds f empty_script bs
+    → Finds g empty_script bs → f ≡ g
 one_finding law bs Agrees Agrees p q = refl
 one_finding law bs Agrees (Differs at) p q = absurd (whole law bs at p.0 p.1 q)
 one_finding law bs (Differs at) Agrees p q = absurd (whole law bs at q.0 q.1 p)

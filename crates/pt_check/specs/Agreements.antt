@@ -5,8 +5,8 @@ use Rattle.pt_grammar.specs.declared.script_line.ScriptLine.{ScriptLine}
 use Rattle.pt_grammar.specs.Script.{script_of}
 use Rattle.pt_model.specs.Searches.{Each}
 use Rattle.pt_engine.specs.Scripts.{Script, event_of_line, line_id}
-use Rattle.pt_engine.specs.Says.{counted}
-use Rattle.pt_script.specs.Laws.{SaysToMet}
+use Rattle.pt_engine.specs.LineAnswers.{count_line}
+use Rattle.pt_script.specs.Laws.{AnswersRequestIf}
 use Rattle.pt_traces.specs.Rows.{rows}
 use Rattle.pt_traces.specs.Answers.{AnswerText, agrees_with, answer_of}
 use Rattle.pt_traces.specs.Blocks.{SeenBlock, first_wrong}
@@ -18,7 +18,8 @@ use Rattle.pt_check.specs.declared.found.Found.TheVariants.{Agrees, Differs}
 -- what the rules answer to a line, if memory is never lacking
 abbrev pub Met : Script → ScriptLine → Script → List ℕ → Type 0
 Met s line next text =
-    SaysToMet false (counted s line.who) (line_id s line.who) (event_of_line s line) next text
+    AnswersRequestIf false (count_line s line.who) (line_id s line.who)
+    (event_of_line s line) next text
 
 -- the answers in a text, each in a row
 abbrev pub answers_in : List ℕ → List AnswerText

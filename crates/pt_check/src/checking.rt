@@ -1,8 +1,8 @@
 ghost use Rattle.std.specs.Prelude.{◌≡◌, ◌<◌, ◌^◌, [], length, false, None, OnOk, IfOk, IfErr};
-ghost use Rattle.pt_model.specs.Starts.{nothing};
-ghost use Rattle.pt_legal.specs.Cores.{shown};
-ghost use Rattle.pt_engine.specs.Scripts.{begun, entries_between_seals};
-ghost use Rattle.pt_engine.specs.Engines.{known_by};
+ghost use Rattle.pt_model.specs.Starts.{empty_start};
+ghost use Rattle.pt_legal.specs.Cores.{core_state};
+ghost use Rattle.pt_engine.specs.Scripts.{empty_script, entries_between_seals};
+ghost use Rattle.pt_engine.specs.Engines.{as_script};
 ghost use Rattle.pt_traces.specs.Rows.{rows};
 ghost use Rattle.pt_traces.specs.Blocks.{blocks, first_wrong};
 ghost use Rattle.pt_check.specs.Agreements.{Compares, Finds, IsFaultOf};
@@ -23,9 +23,9 @@ fn agrees<C: ReadableHistory, A: Allocator + Copy>(
     block: &Block<'_>,
 ) -> Result<bool, CheckFault>
     requires { length engine.old.seen < 2 ^ 53 }
-    ensures ok { IfOk result (λ same. Compares (known_by engine.old) block.now
-        (known_by engine.new) same) }
-    ensures why { IfErr result (λ fault. fault ≡ CheckFault.Memory) }
+    ensures ok { IfOk result (λ same. Compares (as_script engine.old) block.now
+        (as_script engine.new) same) }
+    ensures err { IfErr result (λ fault. fault ≡ CheckFault.Memory) }
 {
     let due = answer_line(engine, alloc, block.line())?;
     Ok(is_answered(&due, block))
@@ -37,10 +37,10 @@ fn find<C: ReadableHistory, A: Allocator + Copy>(
     alloc: A,
     mut blocks: Blocks<'_>,
 ) -> Result<Found, CheckFault>
-    requires new { known_by engine.old ≡ begun }
-    requires few { length blocks < 2 ^ 53 }
-    ensures ok { IfOk result (λ found. Finds found begun blocks.entry) }
-    ensures why { IfErr result (λ fault. fault ≡ CheckFault.Memory) }
+    requires new { as_script engine.old ≡ empty_script }
+    requires within { length blocks < 2 ^ 53 }
+    ensures ok { IfOk result (λ found. Finds found empty_script blocks.entry) }
+    ensures err { IfErr result (λ fault. fault ≡ CheckFault.Memory) }
 {
     let mut at = 0;
     while let Some(block) = blocks.next() {
@@ -64,12 +64,12 @@ pub fn check<C: ReadableHistory, A: Allocator + Copy>(
     alloc: A,
     trace: &[u8],
 ) -> Result<Found, CheckFault>
-    requires empty { shown (C.seen core)
-        ≡ record { start = nothing; entries = []; limit = entries_between_seals } }
-    requires few { length trace.now < 2 ^ 53 }
-    ensures ok { IfOk result (λ found. Finds found begun (blocks (rows trace.now))) }
-    ensures whole { OnOk result (first_wrong false 1 (rows trace.now) ≡ None) }
-    ensures why { IfErr result (IsFaultOf trace.now) }
+    requires empty { core_state (C.seen core)
+        ≡ record { start = empty_start; entries = []; limit = entries_between_seals } }
+    requires within { length trace.now < 2 ^ 53 }
+    ensures ok { IfOk result (λ found. Finds found empty_script (blocks (rows trace.now))) }
+    ensures valid { OnOk result (first_wrong false 1 (rows trace.now) ≡ None) }
+    ensures err { IfErr result (IsFaultOf trace.now) }
 {
     match wrong_row(trace) {
         Some(row) => Err(CheckFault::NotAnswer(row)),

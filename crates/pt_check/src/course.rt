@@ -1,8 +1,8 @@
 //! A trace that is compared past its first difference, and what is written of it.
 
 ghost use Rattle.std.specs.Prelude.{◌≡◌, ◌<◌, [], IfSome, vec_len};
-ghost use Rattle.pt_model.specs.Starts.{nothing};
-ghost use Rattle.pt_legal.specs.Cores.{shown};
+ghost use Rattle.pt_model.specs.Starts.{empty_start};
+ghost use Rattle.pt_legal.specs.Cores.{core_state};
 ghost use Rattle.pt_engine.specs.Scripts.{entries_between_seals};
 
 use crate::appending::{put, put_number};
@@ -19,7 +19,7 @@ use pt_traces::{Answer, Block, Blocks, Rows};
 use std::alloc::Allocator;
 
 // The most lines that are compared.
-const MOST_LINES: u64 = 1 << 53;
+const MAX_LINES: u64 = 1 << 53;
 
 /// What is known of a trace so far.
 pub struct Course<'a, C: ReadableHistory, A: Allocator + Copy> {
@@ -30,7 +30,7 @@ pub struct Course<'a, C: ReadableHistory, A: Allocator + Copy> {
     // The answers that were due to earlier lines and are seen later.
     awaited: Vec<Vec<u8, A>, A>,
     // The rows that show the answers in the latest block.
-    shown: Vec<u8, A>,
+    diff: Vec<u8, A>,
     /// What was counted.
     pub tally: Tally,
 }
@@ -44,7 +44,7 @@ impl<'a, C: ReadableHistory, A: Allocator + Copy> Drop for Course<'a, C, A> {
             name: _,
             takes_late: _,
             awaited: _,
-            shown: _,
+            diff: _,
             tally: _,
         } = self;
     }
@@ -83,8 +83,8 @@ fn put_late<A: Allocator + Copy>(
 impl<'a, C: ReadableHistory, A: Allocator + Copy> Course<'a, C, A> {
     /// Begins a trace with this name, over an empty core.
     pub fn new(core: C, alloc: A, name: &'a [u8], takes_late: bool) -> Course<'a, C, A>
-        requires { shown (C.seen core)
-            ≡ record { start = nothing; entries = []; limit = entries_between_seals } }
+        requires { core_state (C.seen core)
+            ≡ record { start = empty_start; entries = []; limit = entries_between_seals } }
     {
         Course {
             engine: Engine::new(core, alloc),
@@ -92,14 +92,14 @@ impl<'a, C: ReadableHistory, A: Allocator + Copy> Course<'a, C, A> {
             name,
             takes_late,
             awaited: Vec::new(alloc),
-            shown: Vec::new(alloc),
+            diff: Vec::new(alloc),
             tally: Tally::new(),
         }
     }
 
     // Returns the answers that are due to a line.
     fn answer(&mut self, line: &Cut) -> Result<Vec<u8, A>, CheckFault> {
-        if self.engine.lines() >= MOST_LINES {
+        if self.engine.lines() >= MAX_LINES {
             return Err(CheckFault::Memory);
         }
         answer_line(&mut self.engine, self.alloc, line)
@@ -127,10 +127,10 @@ impl<'a, C: ReadableHistory, A: Allocator + Copy> Course<'a, C, A> {
             if seen.word() == b"?".as_slice() {
                 count(&mut self.tally.unasked);
             }
-            put_answer(&mut self.shown, b"  ", seen)?;
+            put_answer(&mut self.diff, b"  ", seen)?;
         } else {
-            put_answer(&mut self.shown, b"- ", due)?;
-            put_answer(&mut self.shown, b"+ ", seen)?;
+            put_answer(&mut self.diff, b"- ", due)?;
+            put_answer(&mut self.diff, b"+ ", seen)?;
         }
         Ok(weight)
     }
@@ -142,11 +142,11 @@ impl<'a, C: ReadableHistory, A: Allocator + Copy> Course<'a, C, A> {
         row: &[u8],
         later: &Blocks<'_>,
     ) -> Result<Weight, CheckFault> {
-        put_answer(&mut self.shown, b"- ", due)?;
+        put_answer(&mut self.diff, b"- ", due)?;
         let Some(at) = late_row(due, later.copied()) else {
             return Ok(Weight::Changes);
         };
-        put_late(&mut self.shown, due, at)?;
+        put_late(&mut self.diff, due, at)?;
         let mut awaited = Vec::new(self.alloc);
         put(&mut awaited, row)?;
         if self.awaited.push(awaited).is_err() {
@@ -183,19 +183,19 @@ impl<'a, C: ReadableHistory, A: Allocator + Copy> Course<'a, C, A> {
             if is_single {
                 return Ok(Weight::Same);
             }
-            put_answer(&mut self.shown, b"+ ", seen)?;
+            put_answer(&mut self.diff, b"+ ", seen)?;
             return Ok(Weight::Changes);
         }
-        if is_single && self.is_awaited(seen) {
-            put_answer(&mut self.shown, b"  ", seen)?;
+        if is_single && self.has_waiters(seen) {
+            put_answer(&mut self.diff, b"  ", seen)?;
             return Ok(Weight::Same);
         }
-        put_answer(&mut self.shown, b"+ ", seen)?;
+        put_answer(&mut self.diff, b"+ ", seen)?;
         Ok(Weight::Changes)
     }
 
     // Returns whether this answer agrees with an awaited one, which is then awaited no more.
-    fn is_awaited(&mut self, seen: &Answer<'_>) -> bool {
+    fn has_waiters(&mut self, seen: &Answer<'_>) -> bool {
         let Some(place) = self.awaited_at(seen) else {
             return false;
         };
@@ -251,7 +251,7 @@ impl<'a, C: ReadableHistory, A: Allocator + Copy> Course<'a, C, A> {
         }
         put(out, b"\n")?;
         reasons.put_rows(out, &self.engine)?;
-        put(out, &self.shown)
+        put(out, &self.diff)
     }
 
     /// Compares the next block, and appends what differs in it. The later blocks show which answers
@@ -264,7 +264,7 @@ impl<'a, C: ReadableHistory, A: Allocator + Copy> Course<'a, C, A> {
     ) -> Result<Weight, CheckFault> {
         let reasons = Reasons::of(&self.engine, block.line());
         let due = self.answer(block.line())?;
-        self.shown.clear();
+        self.diff.clear();
         let missed = self.weigh_all_due(&due, block, later)?;
         let weight = missed.or(self.weigh_all_seen(&due, block)?);
         count(&mut self.tally.lines);

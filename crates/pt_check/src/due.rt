@@ -3,7 +3,7 @@
 ghost use Rattle.std.specs.Prelude.{◌≡◌, ◌<◌, ◌^◌, ◌++◌, ℕ, List, IsTrue, codes, length, IfOk};
 ghost use Rattle.std.specs.Prelude.{IfErr};
 ghost use Rattle.pt_grammar.specs.Script.{script_of};
-ghost use Rattle.pt_engine.specs.Engines.{known_by};
+ghost use Rattle.pt_engine.specs.Engines.{as_script};
 ghost use Rattle.pt_check.specs.Agreements.{Met};
 
 use crate::fault::CheckFault;
@@ -27,9 +27,9 @@ pub fn answer_line<C: LegalHistory, A: Allocator + Copy>(
     line: &Cut,
 ) -> Result<Vec<u8, A>, CheckFault>
     requires { length engine.old.seen < 2 ^ 53 }
-    ensures ok { IfOk result (λ text. Met (known_by engine.old) (script_of line.now)
-        (known_by engine.new) text.items) }
-    ensures why { IfErr result (λ fault. fault ≡ CheckFault.Memory) }
+    ensures ok { IfOk result (λ text. Met (as_script engine.old) (script_of line.now)
+        (as_script engine.new) text.items) }
+    ensures err { IfErr result (λ fault. fault ≡ CheckFault.Memory) }
 {
     let mut text = Vec::new(alloc);
     let Ok(()) = engine.answer(ScriptLine::of(line), &mut text) else {

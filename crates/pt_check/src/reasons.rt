@@ -14,7 +14,7 @@ use std::alloc::Allocator;
 #[derive(Drop)]
 pub struct Reasons {
     place: u64,
-    asked: Result<Event, Refusal>,
+    request: Result<Event, Refusal>,
     own: Reason,
 }
 
@@ -24,11 +24,11 @@ impl Reasons {
         engine: &Engine<C, A>,
         line: &Cut,
     ) -> Reasons {
-        let asked = engine.event_of(ScriptLine::of(line));
-        let own = own_reason(engine, &asked);
+        let request = engine.event_of(ScriptLine::of(line));
+        let own = own_reason(engine, &request);
         Reasons {
             place: engine.entries(),
-            asked,
+            request,
             own,
         }
     }
@@ -41,7 +41,7 @@ impl Reasons {
         engine: &Engine<C, A>,
     ) -> Result<(), CheckFault> {
         if engine.core().first() <= self.place
-            && put_effects(out, engine, &self.asked, self.place, &self.own).is_ok()
+            && put_effects(out, engine, &self.request, self.place, &self.own).is_ok()
         {
             return Ok(());
         }

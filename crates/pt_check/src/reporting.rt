@@ -1,6 +1,6 @@
 ghost use Rattle.std.specs.Prelude.{◌≡◌, []};
-ghost use Rattle.pt_model.specs.Starts.{nothing};
-ghost use Rattle.pt_legal.specs.Cores.{shown};
+ghost use Rattle.pt_model.specs.Starts.{empty_start};
+ghost use Rattle.pt_legal.specs.Cores.{core_state};
 ghost use Rattle.pt_engine.specs.Scripts.{entries_between_seals};
 
 use crate::appending::put;
@@ -33,8 +33,8 @@ pub fn report<C: ReadableHistory, A: Allocator + Copy>(
     takes_late: bool,
     out: &mut Vec<u8, A>,
 ) -> Result<bool, CheckFault>
-    requires { shown (C.seen core)
-        ≡ record { start = nothing; entries = []; limit = entries_between_seals } }
+    requires { core_state (C.seen core)
+        ≡ record { start = empty_start; entries = []; limit = entries_between_seals } }
 {
     let mut course = Course::new(core, alloc, name, takes_late);
     let mut blocks = Blocks::new(trace);

@@ -29,7 +29,7 @@ use std::process::ExitCode;
 const GROUPS: [&str; 5] = ["explained", "drawn", "changed", "recorded", "odd"];
 
 // A trace has fewer bytes than this.
-const MOST_BYTES: usize = 1 << 53;
+const MAX_BYTES: usize = 1 << 53;
 
 // Returns what is found of a trace.
 fn find(rt: &impl AllocGlobal, trace: &[u8]) -> Result<Result<Found, CheckFault>>
@@ -75,7 +75,7 @@ fn checked(rt: &impl AllocGlobal, trace: &[u8]) -> Result<Vec<u8>>
 
 // Checks the trace of a case. Returns whether what is found and written agrees.
 fn is_checked(rt: &(impl Print + AllocGlobal), case: &Case) -> Result<bool> {
-    if case.script.len() >= MOST_BYTES {
+    if case.script.len() >= MAX_BYTES {
         return Ok(false);
     }
     let out = checked(rt, &case.script)?;

@@ -9,7 +9,7 @@ use pt_script::ENTRIES_BETWEEN_SEALS;
 const CALLS: u64 = 70_000;
 
 // A trace has fewer bytes than this.
-const MOST_BYTES: usize = 1 << 53;
+const MAX_BYTES: usize = 1 << 53;
 
 // Returns a trace of calls that change nothing, in which the last answer has this word.
 fn trace_of(rt: &impl AllocGlobal, last: &str) -> Result<Vec<u8>> {
@@ -25,7 +25,7 @@ fn trace_of(rt: &impl AllocGlobal, last: &str) -> Result<Vec<u8>> {
 
 // Returns what is found of this trace.
 fn find(rt: &impl AllocGlobal, trace: &[u8]) -> Result<Option<Found>> {
-    if trace.len() >= MOST_BYTES {
+    if trace.len() >= MAX_BYTES {
         return Ok(None);
     }
     let core = Core::with_limit(rt.alloc(), ENTRIES_BETWEEN_SEALS)?;

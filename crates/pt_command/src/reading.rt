@@ -60,11 +60,11 @@ pub enum Task {
 // Shows what was asked for, or what is wrong with the words. Reports a text that was asked for and
 // can't be written.
 fn show(rt: &HostRuntime, error: &Error) -> ExitCode {
-    let shown = error.print(rt);
+    let printed = error.print(rt);
     if error.use_stderr() {
         return ExitCode::from(USAGE);
     }
-    if shown.is_err() {
+    if printed.is_err() {
         let _ = eprintln!(rt; "ptserver: write failed");
         return ExitCode::from(OUTPUT);
     }

@@ -1,5 +1,5 @@
 ghost use Rattle.std.specs.Prelude.{◌≡◌, Some, None, false};
-ghost use Rattle.pt_types.specs.CondTable.{wait_verdict, is_elsewhere};
+ghost use Rattle.pt_types.specs.CondTable.{wait_verdict, is_bound_elsewhere};
 ghost use Rattle.pt_waitq.specs.Queues.{head_of};
 
 use pt_types::{Deadline, ObjectId, Outcome, Verdict};
@@ -43,7 +43,7 @@ impl CondObj {
         if deadline.is_some_and(|deadline| deadline.is_bad()) {
             return Verdict::Reply(Outcome::Einval);
         }
-        if self.is_elsewhere(mutex) {
+        if self.is_bound_elsewhere(mutex) {
             return Verdict::Reply(Outcome::Einval);
         }
         if !owns {
@@ -53,8 +53,8 @@ impl CondObj {
     }
 
     // Returns whether calls wait at the condition with another mutex.  [XSH pthread_cond_wait]
-    fn is_elsewhere(&self, mutex: ObjectId) -> bool
-        ensures { result ≡ is_elsewhere self.now.bound mutex }
+    fn is_bound_elsewhere(&self, mutex: ObjectId) -> bool
+        ensures { result ≡ is_bound_elsewhere self.now.bound mutex }
     {
         self.bound.is_some_and(|bound| bound != mutex)
     }
@@ -62,7 +62,7 @@ impl CondObj {
     /// Binds the condition to the mutex with which a call begins to wait there.
     /// [XSH pthread_cond_wait]
     pub fn bind(&mut self, mutex: ObjectId)
-        requires { is_elsewhere self.old.bound mutex ≡ false }
+        requires { is_bound_elsewhere self.old.bound mutex ≡ false }
         ensures { self.new ≡ record { bound = Some mutex } }
     {
         self.bound = Some(mutex);

@@ -12,7 +12,7 @@ use std::io::{Read, Write};
 use std::sync::atomic::{AtomicU64, Ordering};
 
 /// The most growths of a script.
-pub const MOST_GROWTHS: u64 = 1000;
+pub const MAX_GROWTHS: u64 = 1000;
 
 // The growths that each script has at the least.
 const LEAST_GROWTHS: u64 = 20;
@@ -158,12 +158,12 @@ fn with_bad_line(alloc: Global, script: &[u8], at: usize) -> Result<Vec<u8>> {
 
 // Returns whether a text is what is written if the line that begins here is refused, and sent once
 // more: in place of ENOMEM, a line with the client's name alone is answered SYNTAX.
-fn is_sent_again(alloc: Global, case: &Case, at: usize, text: &[u8]) -> Result<bool> {
+fn is_resent(alloc: Global, case: &Case, at: usize, text: &[u8]) -> Result<bool> {
     let input = with_bad_line(alloc, &case.script, at)?;
     let none = Refusing::new(alloc, 0);
     let run = play(alloc, &none, &input);
-    let told = str::from_utf8(text)?.replacen(alloc, "ENOMEM", "SYNTAX", 1)?;
-    Ok(told.as_bytes() == run.text.as_slice())
+    let as_syntax = str::from_utf8(text)?.replacen(alloc, "ENOMEM", "SYNTAX", 1)?;
+    Ok(as_syntax.as_bytes() == run.text.as_slice())
 }
 
 // Returns whether a run is one of those that may come of a refused growth.
@@ -173,7 +173,7 @@ fn is_allowed(alloc: Global, case: &Case, run: &Run) -> Result<bool> {
             fault == ScriptFault::Memory && case.expected.starts_with(&run.text),
         ),
         (None, 0) => Ok(run.text.as_slice() == case.expected.as_slice()),
-        (None, at) => is_sent_again(alloc, case, at as usize - 1, &run.text),
+        (None, at) => is_resent(alloc, case, at as usize - 1, &run.text),
         _ => Ok(false),
     }
 }
@@ -182,7 +182,7 @@ fn is_allowed(alloc: Global, case: &Case, run: &Run) -> Result<bool> {
 /// one, in which no growth is refused, writes what is expected.
 pub fn is_steady(alloc: Global, case: &Case) -> Result<bool> {
     let mut all = true;
-    let refused = refuse_each(alloc, MOST_GROWTHS, |heap| -> Result<bool> {
+    let refused = refuse_each(alloc, MAX_GROWTHS, |heap| -> Result<bool> {
         let run = play(alloc, heap, &case.script);
         all = all && is_allowed(alloc, case, &run)?;
         Ok(run.fault.is_some() || run.refused_at != 0)

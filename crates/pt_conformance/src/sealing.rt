@@ -1,4 +1,4 @@
-use crate::refusing::MOST_GROWTHS;
+use crate::refusing::MAX_GROWTHS;
 use anyhow::{Result, bail};
 use pt_cases::Case;
 use pt_core::{Applied, Core};
@@ -18,8 +18,8 @@ type Refused<'a> = Core<&'a Refusing<Global>>;
 // Returns the number of the client that joined last under a name.
 fn client_of(names: &[(ClientName, ClientId)], name: &ClientName) -> ClientId {
     let mut found = ClientId(u64::MAX);
-    for (known, client) in names {
-        if known.as_bytes() == name.as_bytes() {
+    for (earlier, client) in names {
+        if earlier.as_bytes() == name.as_bytes() {
             found = *client;
         }
     }
@@ -132,7 +132,7 @@ fn play_over(alloc: Global, heap: &Refusing<Global>, limit: u16, script: &str) -
 pub fn is_sealed(alloc: Global, case: &Case) -> Result<bool> {
     let script = str::from_utf8(&case.script)?;
     for limit in LIMITS {
-        let refused = refuse_each(alloc, MOST_GROWTHS, |heap| -> Result<bool> {
+        let refused = refuse_each(alloc, MAX_GROWTHS, |heap| -> Result<bool> {
             play_over(alloc, heap, limit, script)
         })?;
         if refused.is_none() {

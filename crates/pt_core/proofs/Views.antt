@@ -1,13 +1,13 @@
 -- A core shows what is stored of its state.
 use Rattle.std.proofs.Common.{◌≡◌, ap, ◌∙◌}
 use Rattle.pt_state.specs.declared.state.State.{State}
-use Rattle.pt_legal.specs.Cores.{Seen, shown}
-use Rattle.pt_core.specs.Stores.{kept, seen}
+use Rattle.pt_legal.specs.Cores.{CoreView, core_state}
+use Rattle.pt_core.specs.Stores.{store_core, store_view}
 
-module _ {A : Type 0} (lent inside : State A) (view : Seen) (same : lent ≡ inside)
-    (is : seen inside.stored ≡ view) where
-  pub seen-now : seen lent.stored ≡ view
-  seen-now = ap (λ (s : State A). seen s.stored) same ∙ is
+module _ {A : Type 0} (lent inside : State A) (view : CoreView) (same : lent ≡ inside)
+    (is : store_view inside.stored ≡ view) where
+  pub store_view-now : store_view lent.stored ≡ view
+  store_view-now = ap (λ (s : State A). store_view s.stored) same ∙ is
 
-  pub shown-now : kept lent.stored ≡ shown view
-  shown-now = ap shown seen-now
+  pub core_state-now : store_core lent.stored ≡ core_state view
+  core_state-now = ap core_state store_view-now

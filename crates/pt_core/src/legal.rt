@@ -1,15 +1,15 @@
 //! The trait `LegalHistory` for a core, whose history is the one legal list for its events.
 
-use crate::machine::Core;
+use crate::core_type::Core;
 use pt_legal::{Applied, LegalHistory, Reply};
 use pt_model::{Entry, Event};
 use pt_types::{ClientId, Clock, Deadline, Outcome, Refusal};
 use std::alloc::Allocator;
 
 impl<A: Allocator + Copy> LegalHistory for Core<A> {
-    ghost use Rattle.pt_legal.specs.Cores.{Seen};
+    ghost use Rattle.pt_legal.specs.Cores.{CoreView};
 
-    ghost seen = { λ (c : Seen). c };
+    ghost seen = { λ (c : CoreView). c };
 
     #[inline(always)]
     fn apply(&mut self, event: &Event) -> Result<Applied, Refusal> {

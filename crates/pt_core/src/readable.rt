@@ -1,6 +1,6 @@
 //! The trait `ReadableHistory` for a core.
 
-use crate::machine::Core;
+use crate::core_type::Core;
 use crate::reading;
 use pt_readable::{ReadableHistory, Waiting};
 use pt_types::operations::ObjectClass;

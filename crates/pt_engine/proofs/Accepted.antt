@@ -13,29 +13,30 @@ use Rattle.pt_model.specs.declared.entry.Entry.{Entry}
 use Rattle.pt_model.specs.declared.entry.Event.{Event}
 use Rattle.pt_model.specs.declared.entry.Event.TheVariants as event
 use Rattle.pt_model.specs.Starts.{Start}
-use Rattle.pt_model.specs.Histories.{behind, place}
+use Rattle.pt_model.specs.Histories.{history_since, place}
 use Rattle.pt_model.specs.Answers.{replies_from}
-use Rattle.pt_model.specs.Queries.{answers_behind}
+use Rattle.pt_model.specs.Queries.{answers_since}
 use Rattle.pt_model.specs.Room.{refusal_with_seals, entry_for}
-use Rattle.pt_model.proofs.Histories.{place-behind}
+use Rattle.pt_model.proofs.Histories.{place-history_since}
 use Rattle.pt_legal.specs.declared.applied.Applied.{Applied}
-use Rattle.pt_legal.specs.Cores.{Kept, past}
-use Rattle.pt_legal.specs.Applying.{IsApplied, IsRefusal, IsWantOfMemory, IsWritten, opened}
+use Rattle.pt_legal.specs.Cores.{CoreState, history_of}
+use Rattle.pt_legal.specs.Applying.{IsApplied, IsRefusal, IsOutOfMemory, IsEventWritten}
+use Rattle.pt_legal.specs.Applying.{core_for_event}
 use Rattle.pt_engine.specs.declared.line_id.LineId.{LineId}
 use Rattle.pt_engine.specs.declared.mark.Mark.{Mark}
 use Rattle.pt_engine.specs.declared.mark.Mark.TheVariants as mark
-use Rattle.pt_engine.specs.Scripts.{Script, line_at, told_text, refusal_text, greeting}
+use Rattle.pt_engine.specs.Scripts.{Script, line_at, replies_text, refusal_text, greeting}
 use Rattle.pt_engine.specs.Scripts.{clients_with, calls_with, same_who, lines_of_who}
 use Rattle.pt_engine.specs.Scripts.{entries_between_seals}
-use Rattle.pt_engine.specs.Says.{SaysOf, refuses, lacks, accepts}
-use Rattle.pt_engine.specs.Names.{Known}
-use Rattle.pt_engine.specs.Engines.{Adds, IsFresh, mark_of, clients_marked, calls_marked}
+use Rattle.pt_engine.specs.LineAnswers.{AnswersEvent, refuses, lacks, accepts}
+use Rattle.pt_engine.specs.Names.{NamesView}
+use Rattle.pt_engine.specs.Engines.{Appends, IsFresh, mark_of, clients_marked, calls_marked}
 use Rattle.pt_engine.specs.Engines.{greeting_marked}
 use Rattle.pt_engine.proofs.Counted.{lookup_push, count_by_push}
 use Rattle.pt_engine.proofs.Opened.{limit_opened, place_opened}
 
 -- what an engine with these parts is seen as
-abbrev pub seen_as : Kept → Known → List (ℕ × LineId) → Script
+abbrev pub seen_as : CoreState → NamesView → List (ℕ × LineId) → Script
 seen_as core names calls = record {
   start = core.start;
   entries = core.entries;
@@ -65,44 +66,48 @@ greeting_as (event.Death c) line = refl
 greeting_as (event.Moment clock t) line = refl
 
 -- the answers from the first new place on are those of the new entries
-answers_added : (core : Kept) (added : List Entry) (first : ℕ) → first ≡ place (past core)
-    → answers_behind core.start first (core.entries ++ added) ≡ replies_from (past core) added
+answers_added : (core : CoreState) (added : List Entry) (first : ℕ) → first
+    ≡ place (history_of core)
+    → answers_since core.start first (core.entries ++ added) ≡ replies_from (history_of core) added
 answers_added core added first is =
-    ap (λ n. replies_from (behind core.start (take n all)) (drop n all)) gap
-    ∙ ap (λ es. replies_from (behind core.start es) (drop (length core.entries) all))
+    ap (λ n. replies_from (history_since core.start (take n all)) (drop n all)) gap
+    ∙ ap (λ es. replies_from (history_since core.start es) (drop (length core.entries) all))
     (take-append_seam core.entries added)
-    ∙ ap (replies_from (past core)) (drop-append_seam core.entries added)
+    ∙ ap (replies_from (history_of core)) (drop-append_seam core.entries added)
   where
     all : List Entry
     all = core.entries ++ added
 
     gap : first - core.start.at ≡ length core.entries
-    gap = omega (arith, is, place-behind core.start core.entries)
+    gap = omega (arith, is, place-history_since core.start core.entries)
 
 -- the answers of an accepted event are those of its entries
-pub answers_are : (core next : Kept) (v : Event) (a : Applied) (applied : IsWritten core v next a)
-    → answers_behind next.start a.first next.entries
-    ≡ replies_from (past core) (entry_for (past core) v ∷ applied.writes.extends.0)
+pub answers_are : (core next : CoreState) (v : Event) (a : Applied)
+    (applied : IsEventWritten core v next a)
+    → answers_since next.start a.first next.entries
+    ≡ replies_from (history_of core) (entry_for (history_of core) v ∷ applied.writes.extends.0)
 answers_are core next v a applied =
-    ap (λ (s : Start). answers_behind s a.first next.entries) applied.writes.starts
-    ∙ ap (answers_behind core.start a.first) applied.writes.extends.1
-    ∙ answers_added core (entry_for (past core) v ∷ applied.writes.extends.0) a.first
+    ap (λ (s : Start). answers_since s a.first next.entries) applied.writes.starts
+    ∙ ap (answers_since core.start a.first) applied.writes.extends.1
+    ∙ answers_added core (entry_for (history_of core) v ∷ applied.writes.extends.0) a.first
     applied.first
 
 -- the same core with a script's limit
-abbrev pub full : Kept → Kept
+abbrev pub full : CoreState → CoreState
 full core = record core { limit = entries_between_seals }
 
-limited : (core : Kept) → core.limit ≡ entries_between_seals → core ≡ full core
-limited core is = ap (λ n. let k : Kept = record core { limit = n } in k) is
+limited : (core : CoreState) → core.limit ≡ entries_between_seals → core ≡ full core
+limited core is = ap (λ n. let k : CoreState = record core { limit = n } in k) is
 
 -- applying an event leaves the limit unchanged
-pub limit_next : (core next : Kept) (v : Event) (a : Applied) → core.limit ≡ entries_between_seals
+pub limit_next : (core next : CoreState) (v : Event) (a : Applied) → core.limit
+    ≡ entries_between_seals
     → IsApplied core v next a → next.limit ≡ entries_between_seals
 limit_next core next v a is done =
     done.written.writes.same_limit ∙ limit_opened core v ∙ is
 
-applied_full : (core next : Kept) (v : Event) (a : Applied) → core.limit ≡ entries_between_seals
+applied_full : (core next : CoreState) (v : Event) (a : Applied) → core.limit
+    ≡ entries_between_seals
     → IsApplied core v next a → IsApplied (full core) v (full next) a
 applied_full core next v a is done =
     let from = subst (λ k. IsApplied k v next a) (limited core is) done in
@@ -110,12 +115,12 @@ applied_full core next v a is done =
     (limited next (limit_next core next v a is done)) from
 
 -- the place of its entry is the next one, whether the core is sealed or not
-pub place_first : (core next : Kept) (v : Event) (a : Applied)
-    → IsApplied core v next a → a.first ≡ place (past core)
+pub place_first : (core next : CoreState) (v : Event) (a : Applied)
+    → IsApplied core v next a → a.first ≡ place (history_of core)
 place_first core next v a done = done.written.first ∙ place_opened core v
 
 -- an accepted event: its parts were noted, and its answers appended
-pub accepted : (s : Script) (core next : Kept) (names known : Known)
+pub accepted : (s : Script) (core next : CoreState) (names known : NamesView)
     (calls noted : List (ℕ × LineId)) (v : Event) (line : LineId) (a : Applied) (m : Mark)
     (out greeted told : List ℕ)
     → s ≡ seen_as core names calls → core.limit ≡ entries_between_seals → m ≡ mark_of v
@@ -123,15 +128,16 @@ pub accepted : (s : Script) (core next : Kept) (names known : Known)
     → known ≡ record names { clients = clients_marked m line.who a.first names.clients }
     → noted ≡ calls_marked m line a.first calls
     → greeted ≡ out ++ greeting_marked m line
-    → told ≡ greeted ++ told_text noted (answers_behind next.start a.first next.entries)
-    → Adds (SaysOf s v line (seen_as next known noted)) out told
+    → told ≡ greeted ++ replies_text noted (answers_since next.start a.first next.entries)
+    → Appends (AnswersEvent s v line (seen_as next known noted)) out told
 accepted s core next names known calls noted v line a m out greeted told is whole marks applies
     knows notes greets tells =
-    subst (λ t. Adds (SaysOf t v line (seen_as next known noted)) out told) (sym is) (record {
+    subst (λ t. Appends (AnswersEvent t v line (seen_as next known noted)) out told) (sym is)
+    (record {
       text = greeting_marked m line ++ answers;
       grows =
           tells
-          ∙ ap (λ ts. greeted ++ told_text noted ts)
+          ∙ ap (λ ts. greeted ++ replies_text noted ts)
           (answers_are begins (full next) v a done.written)
           ∙ ap (λ xs. xs ++ answers) greets
           ∙ append_assoc out (greeting_marked m line) answers;
@@ -145,54 +151,55 @@ accepted s core next names known calls noted v line a m out greeted told is whol
             ap (λ k. k.clients) knows
             ∙ ap (λ n. clients_marked n line.who a.first names.clients) marks
             ∙ ap (λ n. clients_marked (mark_of v) line.who n names.clients) here
-            ∙ clients_as v line.who (place (past core)) names.clients;
+            ∙ clients_as v line.who (place (history_of core)) names.clients;
         calls =
             notes
             ∙ ap (λ n. calls_marked n line a.first calls) marks
             ∙ ap (λ n. calls_marked (mark_of v) line n calls) here
-            ∙ calls_as v line (place (past core)) calls;
+            ∙ calls_as v line (place (history_of core)) calls;
         written =
             ap (λ n. greeting_marked n line ++ answers) marks
             ∙ ap (λ g. g ++ answers) (greeting_as v line);
       });
     })
   where
-    begins : Kept
-    begins = opened (full core) v
+    begins : CoreState
+    begins = core_for_event (full core) v
 
     done : IsApplied (full core) v (full next) a
     done = applied_full core next v a whole applies
 
-    here : a.first ≡ place (past core)
+    here : a.first ≡ place (history_of core)
     here = place_first core next v a applies
 
     added : List Entry
-    added = entry_for (past begins) v ∷ done.written.writes.extends.0
+    added = entry_for (history_of begins) v ∷ done.written.writes.extends.0
 
     answers : List ℕ
-    answers = told_text noted (replies_from (past begins) added)
+    answers = replies_text noted (replies_from (history_of begins) added)
 
 -- a refused event: its refusal was appended, and nothing else changed
-pub refused : (s : Script) (core next : Kept) (names : Known)
+pub refused : (s : Script) (core next : CoreState) (names : NamesView)
     (calls noted : List (ℕ × LineId)) (v : Event) (line : LineId) (why : Refusal)
     (out told : List ℕ)
     → s ≡ seen_as core names calls → core.limit ≡ entries_between_seals → next ≡ core
     → noted ≡ calls → IsRefusal core v why → told ≡ out ++ refusal_text line why
-    → Adds (SaysOf s v line (seen_as next names noted)) out told
+    → Appends (AnswersEvent s v line (seen_as next names noted)) out told
 refused s core next names calls noted v line why out told is whole stays kept refuses_it tells =
-    subst (λ t. Adds (SaysOf t v line (seen_as next names noted)) out told) (sym is) (record {
+    subst (λ t. Appends (AnswersEvent t v line (seen_as next names noted)) out told) (sym is)
+    (record {
       text = refusal_text line why;
       grows = tells;
-      holds = by (refusal_with_seals entries_between_seals (past core) v) refl
+      holds = by (refusal_with_seals entries_between_seals (history_of core) v) refl
           (subst (λ k. IsRefusal k v why) (limited core whole) refuses_it);
     })
   where
     same : seen_as next names noted ≡ seen_as core names calls
     same = ap (λ k. seen_as k names noted) stays ∙ ap (λ cs. seen_as core names cs) kept
 
-    by : (r : Option Refusal) → refusal_with_seals entries_between_seals (past core) v ≡ r
-        → MatchOption r (IsWantOfMemory v why) (λ x. why ≡ x)
-        → SaysOf (seen_as core names calls) v line (seen_as next names noted)
+    by : (r : Option Refusal) → refusal_with_seals entries_between_seals (history_of core) v ≡ r
+        → MatchOption r (IsOutOfMemory v why) (λ x. why ≡ x)
+        → AnswersEvent (seen_as core names calls) v line (seen_as next names noted)
         (refusal_text line why)
     by None none lock_kind = lacks (record {
       accepted = none;

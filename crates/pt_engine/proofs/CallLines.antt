@@ -2,7 +2,7 @@
 use Rattle.std.proofs.Common.{◌≡◌, ℕ, true, cond, List, Some, None, nat_eq, ap, ◌∙◌, arith}
 use Rattle.std.proofs.lemmas.Bool.Decides.{nat_tests}
 use Rattle.std.specs.Option.{option_or}
-use Rattle.pt_types.specs.declared.call.Call.{Call as Asked}
+use Rattle.pt_types.specs.declared.call.Call.{Call as FunctionCall}
 use Rattle.pt_model.specs.declared.entry.Event.{Event}
 use Rattle.pt_model.specs.declared.entry.Event.TheVariants as event
 use Rattle.pt_engine.specs.declared.line_id.LineId.{LineId}
@@ -18,7 +18,7 @@ line_on (event.Call c call) line found place j calls is =
 line_on _ line found place j calls is = is
 
 -- the line that is noted last is found
-pub line_here : (c : ℕ) (call : Asked) (line : LineId) (place : ℕ) (calls : List (ℕ × LineId))
+pub line_here : (c : ℕ) (call : FunctionCall) (line : LineId) (place : ℕ) (calls : List (ℕ × LineId))
     → line_at calls place ≡ None
     → line_at (calls_with (event.Call c call) line place calls) place ≡ Some line
 line_here c call line place calls none =

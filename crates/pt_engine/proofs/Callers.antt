@@ -2,18 +2,18 @@
 use Rattle.std.proofs.Common.{◌≡◌, ℕ, ◌<◌, ◌==◌, ◌⊎◌, inl, inr, Bool, true, false, cond, List, []}
 use Rattle.std.proofs.Common.{◌∷◌, Option, Some, None, refl, sym, ap, ◌∙◌, subst, arith}
 use Rattle.std.proofs.lemmas.Bool.Decides.{nat_tests}
-use Rattle.pt_types.specs.declared.call.Call.{Call as Asked}
+use Rattle.pt_types.specs.declared.call.Call.{Call as FunctionCall}
 use Rattle.pt_types.specs.declared.outcome.Outcome.{Outcome}
 use Rattle.pt_types.specs.Tables.{reply}
 use Rattle.pt_model.specs.declared.entry.Entry.{Entry}
 use Rattle.pt_model.specs.declared.entry.Entry.TheVariants.{Call}
 use Rattle.pt_model.specs.Searches.{In, Each}
-use Rattle.pt_model.specs.Histories.{History, Begin, ◌▷◌, onto, place}
-use Rattle.pt_model.specs.Records.{Told}
+use Rattle.pt_model.specs.Histories.{History, Begin, ◌▷◌, append_entries, place}
+use Rattle.pt_model.specs.Records.{ReplyView}
 use Rattle.pt_model.specs.declared.waiting_call.WaitingCall.{WaitingCall}
-use Rattle.pt_model.specs.WaitingCall.{at_place, stood, stood_by}
-use Rattle.pt_model.specs.Answers.{told, open_calls, replies_from}
-use Rattle.pt_model.specs.Queries.{caller, client_at}
+use Rattle.pt_model.specs.WaitingCall.{call_at_place, waiting_calls, waiting_calls_by}
+use Rattle.pt_model.specs.Answers.{entry_replies, open_calls, replies_from}
+use Rattle.pt_model.specs.Queries.{caller, client_of_found}
 use Rattle.pt_model.specs.Verdicts.{verdict}
 use Rattle.pt_model.specs.Steps.{Step, calls, Follows}
 use Rattle.pt_model.specs.Seals.{seal}
@@ -26,8 +26,8 @@ use Rattle.pt_model.proofs.Histories.{follows-part}
 use Rattle.pt_model.proofs.Induction.{by_steps, start-seal}
 use Rattle.pt_model.proofs.Lists.{Each-in, Each-append, Each-weaker, In-append_cases}
 use Rattle.pt_model.proofs.Readings.{stood-call}
-use Rattle.pt_model.proofs.Ascending.{at_place-place}
-use Rattle.pt_model.proofs.Rising.{stood-seal}
+use Rattle.pt_model.proofs.Ascending.{call_at_place-place}
+use Rattle.pt_model.proofs.Rising.{waiting_calls-seal}
 use Rattle.pt_model.proofs.Sound.{Below, Fresh-follows}
 use Rattle.pt_engine.proofs.Answered.{IsForAnswered, told_each}
 
@@ -44,12 +44,12 @@ called_on h (Call d call r) j c is =
 called_on h _ j c is = (is.0, let below = is.1 in omega (arith, below))
 
 pub called_onto : (h : History) (es : List Entry) (j c : ℕ) → IsCalled h j c
-    → IsCalled (onto h es) j c
+    → IsCalled (append_entries h es) j c
 called_onto h [] j c is = is
 called_onto h (e ∷ es) j c is = called_onto (h ▷ e) es j c (called_on h e j c is)
 
 -- the caller of a new call is its client
-pub called_here : (h : History) (c : ℕ) (call : Asked) (r : Option Outcome)
+pub called_here : (h : History) (c : ℕ) (call : FunctionCall) (r : Option Outcome)
     → IsCalled (h ▷ Call c call r) (place h) c
 called_here h c call r =
     let same : (place h == place h) ≡ true = grind (arith, nat_tests) in
@@ -72,10 +72,10 @@ stands_own h c (Wakes n all) a w i = absurd i
 
 -- the caller of each call that waited is its client
 abbrev AreCalled : History → Type 0
-AreCalled h = (w : WaitingCall) → In w (stood h) → IsCalled h w.place w.client
+AreCalled h = (w : WaitingCall) → In w (waiting_calls h) → IsCalled h w.place w.client
 
-new_called : (h : History) (c : ℕ) (call : Asked) (w : WaitingCall)
-    → In w (stood_by h (Call c call (reply (verdict h c call))))
+new_called : (h : History) (c : ℕ) (call : FunctionCall) (w : WaitingCall)
+    → In w (waiting_calls_by h (Call c call (reply (verdict h c call))))
     → IsCalled (h ▷ Call c call (reply (verdict h c call))) w.place w.client
 new_called h c call w i =
     let r = reply (verdict h c call) in
@@ -88,21 +88,23 @@ new_called h c call w i =
     (called_here h c call r))
 
 step_called : (h : History) (e : Entry) → AreCalled h → Step h e → AreCalled (h ▷ e)
-step_called h e ih s w i = go s (In-append_cases w (stood h) (stood_by h e) i)
+step_called h e ih s w i = go s (In-append_cases w (waiting_calls h) (waiting_calls_by h e) i)
   where
-    go : Step h e → In w (stood h) ⊎ In w (stood_by h e) → IsCalled (h ▷ e) w.place w.client
+    go : Step h e → In w (waiting_calls h) ⊎ In w (waiting_calls_by h e)
+        → IsCalled (h ▷ e) w.place w.client
     go s (inl old) = called_on h e w.place w.client (ih w old)
     go s (inr new) = fresh e s new
       where
-        fresh : (e : Entry) → Step h e → In w (stood_by h e) → IsCalled (h ▷ e) w.place w.client
+        fresh : (e : Entry) → Step h e → In w (waiting_calls_by h e)
+            → IsCalled (h ▷ e) w.place w.client
         fresh _ (calls c call n a o) new = new_called h c call w new
         fresh _ s new = absurd new
 
 sealed_called : (h : History) → Follows h → AreCalled (Begin (seal h))
 sealed_called h f w i =
     let g = start-seal h f in (
-      ap client_at (found (Begin (seal h)) g w i),
-      (Each-in (Below (place (Begin (seal h)))) (stood (Begin (seal h))) w
+      ap client_of_found (found (Begin (seal h)) g w i),
+      (Each-in (Below (place (Begin (seal h)))) (waiting_calls (Begin (seal h))) w
           (Fresh-follows (Begin (seal h)) g).stood i).0,
     )
 
@@ -113,33 +115,33 @@ stood_called h f =
     (λ h f ih. sealed_called h f) h f
 
 -- a call that is found in a list occurs in it
-found_in : (j : ℕ) (ws : List WaitingCall) (w : WaitingCall) → at_place j ws ≡ Some w → In w ws
+found_in : (j : ℕ) (ws : List WaitingCall) (w : WaitingCall) → call_at_place j ws ≡ Some w → In w ws
 found_in j [] w e = absurd cc
 found_in j (v ∷ vs) w e = go (v.place == j) e (found_in j vs w)
   where
-    go : (b : Bool) → cond b (Some v) (at_place j vs) ≡ Some w
-        → (at_place j vs ≡ Some w → In w vs) → In w (v ∷ vs)
+    go : (b : Bool) → cond b (Some v) (call_at_place j vs) ≡ Some w
+        → (call_at_place j vs ≡ Some w → In w vs) → In w (v ∷ vs)
     go true e later = let same : w ≡ v = cc in inl same
     go false e later = inr (later e)
 
 -- the caller of a call in a seal was its caller before
 pub caller_sealed : (h : History) → Follows h → (j c : ℕ) → caller (Begin (seal h)) j ≡ Some c
     → caller h j ≡ Some c
-caller_sealed h f j c e = go (at_place j (stood (Begin (seal h)))) refl e
+caller_sealed h f j c e = go (call_at_place j (waiting_calls (Begin (seal h)))) refl e
   where
-    go : (o : Option WaitingCall) → at_place j (stood (Begin (seal h))) ≡ o
-        → client_at o ≡ Some c → caller h j ≡ Some c
+    go : (o : Option WaitingCall) → call_at_place j (waiting_calls (Begin (seal h))) ≡ o
+        → client_of_found o ≡ Some c → caller h j ≡ Some c
     go None at e = absurd cc
     go (Some w) at e =
         let i : In w (open_calls h) =
-        subst (In w) (stood-seal h) (found_in j (stood (Begin (seal h))) w at) in
-        let there : w.place ≡ j = at_place-place j (stood (Begin (seal h))) w at in
+        subst (In w) (waiting_calls-seal h) (found_in j (waiting_calls (Begin (seal h))) w at) in
+        let there : w.place ≡ j = call_at_place-place j (waiting_calls (Begin (seal h))) w at in
         let same : w.client ≡ c = cc in
         subst (λ k. caller h k ≡ Some c) there
         ((stood_called h f w (stood_open h w i)).0 ∙ ap Some same)
 
 -- an answer goes to its call's caller
-abbrev pub IsOwn : History → Told → Type 0
+abbrev pub IsOwn : History → ReplyView → Type 0
 IsOwn h t = IsCalled h t.place t.client
 
 called_answered : (h : History) (e : Entry) → Follows h → IsForAnswered (IsCalled (h ▷ e)) h e
@@ -148,17 +150,18 @@ called_answered h e f = λ w i.
     called_on h e w.place w.client (stood_called h f w (stood_open h w i))
 
 -- so does each answer that an entry gives
-told_own : (h : History) (e : Entry) → Follows h → Step h e → Each (IsOwn (h ▷ e)) (told h e)
+told_own : (h : History) (e : Entry) → Follows h → Step h e
+    → Each (IsOwn (h ▷ e)) (entry_replies h e)
 told_own h e f s = told_each (IsCalled (h ▷ e)) h e f s (called_answered h e f)
 
 -- so does each answer that these entries give
-pub replies_own : (h : History) (es : List Entry) → Follows (onto h es)
-    → Each (IsOwn (onto h es)) (replies_from h es)
+pub replies_own : (h : History) (es : List Entry) → Follows (append_entries h es)
+    → Each (IsOwn (append_entries h es)) (replies_from h es)
 replies_own h [] f = tt
 replies_own h (e ∷ es) f =
     let before = follows-part (h ▷ e) es f in
-    Each-append (IsOwn (onto (h ▷ e) es)) (told h e) (replies_from (h ▷ e) es)
-    (Each-weaker (IsOwn (h ▷ e)) (IsOwn (onto (h ▷ e) es))
-    (λ t is. called_onto (h ▷ e) es t.place t.client is) (told h e)
+    Each-append (IsOwn (append_entries (h ▷ e) es)) (entry_replies h e) (replies_from (h ▷ e) es)
+    (Each-weaker (IsOwn (h ▷ e)) (IsOwn (append_entries (h ▷ e) es))
+    (λ t is. called_onto (h ▷ e) es t.place t.client is) (entry_replies h e)
     (told_own h e before.0 before.1))
     (replies_own (h ▷ e) es f)

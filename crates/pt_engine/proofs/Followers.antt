@@ -7,8 +7,8 @@ use Rattle.pt_model.specs.declared.entry.Entry.{Entry}
 use Rattle.pt_model.specs.declared.entry.Event.{Event}
 use Rattle.pt_model.specs.declared.entry.Event.TheVariants as event
 use Rattle.pt_model.specs.Starts.{Start}
-use Rattle.pt_model.specs.Histories.{History, Begin, behind}
-use Rattle.pt_model.specs.Legal.{LegalBehind, event_of, events_of}
+use Rattle.pt_model.specs.Histories.{History, Begin, history_since}
+use Rattle.pt_model.specs.Legal.{LegalSince, event_of, events_of}
 use Rattle.pt_model.specs.Room.{entry_for}
 use Rattle.pt_model.proofs.Legality.{events_of-legal}
 
@@ -35,12 +35,14 @@ events_apart (x ∷ xs) ys =
 
 -- the entries that follow an event's entry have no event
 pub none_forced : (s : Start) (old new fs : List Entry) (v : Event)
-    → new ≡ old ++ entry_for (behind s old) v ∷ fs → LegalBehind s new (events_of old ++ v ∷ [])
+    → new ≡ old ++ entry_for (history_since s old) v ∷ fs → LegalSince s new (events_of old ++ v
+    ∷ [])
     → events_of fs ≡ []
 none_forced s old new fs v extends legal =
     let all : events_of old ++ (v ∷ events_of fs) ≡ events_of old ++ v ∷ [] =
-    ap (λ o. events_of old ++ cons_option o (events_of fs)) (sym (event_back (behind s old) v))
-    ∙ sym (events_apart old (entry_for (behind s old) v ∷ fs))
+    ap (λ o. events_of old ++ cons_option o (events_of fs)) (sym (event_back
+    (history_since s old) v))
+    ∙ sym (events_apart old (entry_for (history_since s old) v ∷ fs))
     ∙ sym (ap events_of extends)
     ∙ events_of-legal (Begin s) new (events_of old ++ v ∷ []) legal in
     let rest : v ∷ events_of fs ≡ v ∷ [] =

@@ -7,8 +7,8 @@ use Rattle.pt_model.specs.declared.entry.Entry.TheVariants.{Call}
 use Rattle.pt_model.specs.declared.entry.Event.{Event}
 use Rattle.pt_model.specs.declared.waiting_call.WaitingCall.{WaitingCall}
 use Rattle.pt_model.specs.Searches.{In, Each}
-use Rattle.pt_model.specs.Histories.{History, ◌▷◌, onto}
-use Rattle.pt_model.specs.Answers.{told, open_calls, replies_from}
+use Rattle.pt_model.specs.Histories.{History, ◌▷◌, append_entries}
+use Rattle.pt_model.specs.Answers.{entry_replies, open_calls, replies_from}
 use Rattle.pt_model.specs.Legal.{event_of, events_of}
 use Rattle.pt_model.specs.Steps.{Step, Follows}
 use Rattle.pt_model.proofs.Histories.{follows-part}
@@ -44,27 +44,27 @@ module _ (P : ℕ → ℕ → Type 0) where
       by (Call c call r) none (inr own) = absurd cc
       by x none (inr own) = absurd own
 
-  quiet_each : (h : History) (es : List Entry) → events_of es ≡ [] → Follows (onto h es)
-      → IsForOpen h → Each (IsOfCall P) (replies_from h es) × IsForOpen (onto h es)
+  quiet_each : (h : History) (es : List Entry) → events_of es ≡ [] → Follows (append_entries h es)
+      → IsForOpen h → Each (IsOfCall P) (replies_from h es) × IsForOpen (append_entries h es)
   quiet_each h [] none f all = (tt, all)
   quiet_each h (e ∷ es) none f all =
       let before = follows-part (h ▷ e) es f in
       let quiet = none_first (event_of e) (events_of es) none in
       let later = quiet_each (h ▷ e) es (cons_none (event_of e) (events_of es) none) f
       (open_quiet h e quiet before.0 before.1 all) in (
-        Each-append (IsOfCall P) (told h e) (replies_from (h ▷ e) es)
+        Each-append (IsOfCall P) (entry_replies h e) (replies_from (h ▷ e) es)
             (told_each P h e before.0 before.1 (answered_quiet h e quiet all)) later.0,
         later.1,
       )
 
   -- the answers of an entry and of those that follow it
   pub event_each : (h : History) (e : Entry) (es : List Entry) → events_of es ≡ []
-      → Follows (onto (h ▷ e) es) → IsForAnswered P h e → IsForOpen (h ▷ e)
-      → Each (IsOfCall P) (replies_from h (e ∷ es)) × IsForOpen (onto (h ▷ e) es)
+      → Follows (append_entries (h ▷ e) es) → IsForAnswered P h e → IsForOpen (h ▷ e)
+      → Each (IsOfCall P) (replies_from h (e ∷ es)) × IsForOpen (append_entries (h ▷ e) es)
   event_each h e es none f own all =
       let before = follows-part (h ▷ e) es f in
       let later = quiet_each (h ▷ e) es none f all in (
-        Each-append (IsOfCall P) (told h e) (replies_from (h ▷ e) es)
+        Each-append (IsOfCall P) (entry_replies h e) (replies_from (h ▷ e) es)
             (told_each P h e before.0 before.1 own) later.0,
         later.1,
       )

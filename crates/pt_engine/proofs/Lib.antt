@@ -4,8 +4,8 @@ pub mod Counted
 mod Rows
 -- Texts: texts of answers
 mod Texts
--- Left: the answers that remain from an index on
-mod Left
+-- WaitingLines: the answers that remain from an index on
+mod WaitingLines
 -- Opened: the core to which an event's entries are added: what holds of a core and of its seal
 pub mod Opened
 -- Accepted: what is written for an event: it is refused or accepted
@@ -27,10 +27,10 @@ mod Later
 -- Waiting: the line of a call that is open after an event's entry is the event's own line, or is
 -- stored
 mod Waiting
--- Asked: each answer is under the event's own line or the one that is stored for its client
-mod Asked
--- Alone: an event that no entry follows answers its own call, or none
-mod Alone
+-- PendingLineLemmas: each answer is under the event's own line or the one that is stored for its client
+mod PendingLineLemmas
+-- CallerOnly: an event that no entry follows answers its own call, or none
+mod CallerOnly
 -- Stays: what holds of an engine whose core and stored lines are unchanged
 mod Stays
 -- Raised: what is counted after one more line came

@@ -5,12 +5,13 @@ use Rattle.std.proofs.Common.{length-append, ◌^◌, Fits, w64}
 use Rattle.std.proofs.lemmas.List.Sums.{count_by-le-length}
 use Rattle.pt_grammar.specs.declared.client.Who.{Who}
 use Rattle.pt_engine.specs.Scripts.{lines_of_who, same_who}
-use Rattle.pt_engine.specs.Names.{Known, Counted, lines_counted}
-use Rattle.pt_engine.specs.Names.{AreCounted, IsRaised}
+use Rattle.pt_engine.specs.Names.{NamesView, LineCounts, lines_counted}
+use Rattle.pt_engine.specs.Names.{AreCounted, CountsOneLine}
 use Rattle.pt_engine.proofs.Counted.{count_by_push}
 
-pub raised_counted : (old new : Counted) (total : ℕ) (known : Known) (who : Who) (seen : List Who)
-    → AreCounted old total known → IsRaised old who new → seen ≡ known.seen ++ who ∷ []
+pub raised_counted : (old new : LineCounts) (total : ℕ) (known : NamesView) (who : Who)
+    (seen : List Who)
+    → AreCounted old total known → CountsOneLine old who new → seen ≡ known.seen ++ who ∷ []
     → AreCounted new (total + 1) (record { seen = seen; clients = known.clients })
 raised_counted old new total known who seen counted raised is = record {
   lines = λ other.
@@ -26,7 +27,7 @@ raised_counted old new total known who seen counted raised is = record {
 }
 
 -- a client has no more lines than came
-pub few_counted : (k : Counted) (total : ℕ) (known : Known) (who : Who) (n : ℕ)
+pub few_counted : (k : LineCounts) (total : ℕ) (known : NamesView) (who : Who) (n : ℕ)
     → AreCounted k total known → length known.seen < n → lines_counted k who < n
 few_counted k total known who n are few =
     let least = count_by-le-length (λ w. same_who w who) known.seen in

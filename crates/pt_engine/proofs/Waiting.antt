@@ -2,7 +2,7 @@
 use Rattle.std.proofs.Common.{◌≡◌, ℕ, ◌==◌, ◌⊎◌, inl, inr, Bool, true, false, cond, List, ◌∷◌}
 use Rattle.std.proofs.Common.{Option, Some, None, refl, sym, ap, ◌∙◌, subst, arith, eq-eqb}
 use Rattle.std.proofs.lemmas.Bool.Decides.{nat_tests}
-use Rattle.pt_types.specs.declared.call.Call.{Call as Asked}
+use Rattle.pt_types.specs.declared.call.Call.{Call as FunctionCall}
 use Rattle.pt_types.specs.declared.outcome.Outcome.{Outcome}
 use Rattle.pt_types.specs.Tables.{reply}
 use Rattle.pt_model.specs.declared.entry.Entry.{Entry}
@@ -22,10 +22,11 @@ use Rattle.pt_model.proofs.Found.{newest_call}
 use Rattle.pt_model.proofs.Once.{open_unanswered}
 use Rattle.pt_model.proofs.OneEach.{none_of_client}
 use Rattle.pt_model.proofs.Opens.{left, was_open}
-use Rattle.pt_legal.specs.Applying.{told_at_once}
+use Rattle.pt_legal.specs.Applying.{outcome_at_once}
 use Rattle.pt_engine.specs.declared.line_id.LineId.{LineId}
 use Rattle.pt_engine.specs.Scripts.{calls_with}
-use Rattle.pt_engine.specs.Engines.{AreLines, IsAsked, IsLineOf, latest_line, mark_of, own_first}
+use Rattle.pt_engine.specs.Engines.{AreLines, StoresPendingLine, IsLineOf, latest_line, mark_of}
+use Rattle.pt_engine.specs.Engines.{own_first}
 use Rattle.pt_engine.proofs.Answered.{IsForAnswered}
 use Rattle.pt_engine.proofs.Callers.{stands_own}
 use Rattle.pt_engine.proofs.CallLines.{line_here, line_on}
@@ -44,7 +45,7 @@ same_sym m n = grind (arith, nat_tests)
 
 -- with the event's own line put first, the stored lines are the same before and after it is stored
 pub own_same : (o : Option Outcome) (v : Event) (line : LineId) (asked stored : List (ℕ × LineId))
-    → IsAsked o (mark_of v) line asked stored → (c : ℕ)
+    → StoresPendingLine o (mark_of v) line asked stored → (c : ℕ)
     → latest_line (own_first (mark_of v) line stored) c
     ≡ latest_line (own_first (mark_of v) line asked) c
 own_same None (event.Call d call) line asked stored sets c = go (c == d) refl
@@ -62,7 +63,7 @@ own_same (Some x) v line asked stored sets c =
 
 -- the line of a call that waits is stored
 waits_stored : (v : Event) (line : LineId) (asked stored : List (ℕ × LineId))
-    → IsAsked None (mark_of v) line asked stored → (c : ℕ)
+    → StoresPendingLine None (mark_of v) line asked stored → (c : ℕ)
     → latest_line stored c ≡ latest_line (own_first (mark_of v) line asked) c
 waits_stored (event.Call d call) line asked stored sets c =
     sets c ∙ ap (λ b. cond b (Some line) (latest_line asked c)) (same_sym d c)
@@ -81,7 +82,7 @@ HasLine h v line asked lines j c =
 -- answered
 pub stored_line : (o : Option Outcome) (h after : History) (v : Event) (line : LineId)
     (asked stored lines : List (ℕ × LineId)) (w : WaitingCall)
-    → o ≡ told_at_once v after (place h) → IsAsked o (mark_of v) line asked stored
+    → o ≡ outcome_at_once v after (place h) → StoresPendingLine o (mark_of v) line asked stored
     → In w (open_calls after) → HasLine h v line asked lines w.place w.client
     → IsLineOf stored (calls_with v line (place h) lines) w.client w.place
 stored_line None h after v line asked stored lines w told sets i has =
@@ -144,7 +145,7 @@ module _ (h : History) (line : LineId) (asked lines : List (ℕ × LineId))
       )
 
   -- so has the event's own call
-  here_has : (d : ℕ) (call : Asked) → HasLine h (event.Call d call) line asked lines (place h) d
+  here_has : (d : ℕ) (call : FunctionCall) → HasLine h (event.Call d call) line asked lines (place h) d
   here_has d call = (
     (
       line,

@@ -9,38 +9,38 @@ use Rattle.pt_grammar.specs.declared.client.Who.{Who}
 use Rattle.pt_grammar.specs.declared.cut.Cut.{Cut}
 use Rattle.pt_lines.specs.declared.reply.Word.TheVariants as word
 use Rattle.pt_lines.specs.Replies.{reply_line}
-use Rattle.pt_grammar.specs.Lines.{Held, to_come}
+use Rattle.pt_grammar.specs.Lines.{CutterView, lines_to_come}
 use Rattle.pt_grammar.specs.Script.{script_of}
 use Rattle.pt_model.specs.declared.entry.Event.{Event}
 use Rattle.pt_model.specs.declared.entry.Event.TheVariants as event
 use Rattle.pt_model.specs.Histories.{History, place}
-use Rattle.pt_model.specs.Records.{Told}
+use Rattle.pt_model.specs.Records.{ReplyView}
 use Rattle.pt_model.specs.declared.waiting_call.WaitingCall.{WaitingCall}
 use Rattle.pt_model.specs.Searches.{In}
 use Rattle.pt_model.specs.Answers.{open_calls}
-use Rattle.pt_model.specs.Legal.{LegalBehind, events_of}
+use Rattle.pt_model.specs.Legal.{LegalSince, events_of}
 use Rattle.pt_model.specs.Steps.{IsStart}
-use Rattle.pt_legal.specs.Cores.{Kept, Seen, shown}
+use Rattle.pt_legal.specs.Cores.{CoreState, CoreView, core_state}
 use Rattle.pt_engine.specs.declared.line_id.LineId.{LineId}
 use Rattle.pt_engine.specs.declared.mark.Mark.{Mark}
 use Rattle.pt_engine.specs.declared.mark.Mark.TheVariants.{Client, Call, Nothing}
-use Rattle.pt_engine.specs.Scripts.{Script, line_at, told_line, clients_joined}
+use Rattle.pt_engine.specs.Scripts.{Script, line_at, reply_text, clients_joined}
 use Rattle.pt_engine.specs.Scripts.{entries_between_seals}
-use Rattle.pt_engine.specs.Says.{SaysAll}
+use Rattle.pt_engine.specs.LineAnswers.{AnswersLines}
 
 -- what contracts see of an engine: its core as contracts see it, which client each line belongs to,
 -- the number of each client that has joined under a name, and which line made the call at each
 -- place
-pub record Heard : Type 0 where
-  pub core : Seen
+pub record EngineView : Type 0 where
+  pub core : CoreView
   pub seen : List Who
   pub clients : List (List ℕ × ℕ)
   pub calls : List (ℕ × LineId)
 
 -- what an engine knows, as a script
-abbrev pub known_by : Heard → Script
-known_by e = record {
-  start = (shown e.core).start;
+abbrev pub as_script : EngineView → Script
+as_script e = record {
+  start = (core_state e.core).start;
   entries = e.core.entries;
   seen = e.seen;
   clients = e.clients;
@@ -48,7 +48,7 @@ known_by e = record {
 }
 
 -- a text for which this holds was appended
-pub record Adds (Holds : List ℕ → Type 0) (old new : List ℕ) : Type 0 where
+pub record Appends (Holds : List ℕ → Type 0) (old new : List ℕ) : Type 0 where
   pub text : List ℕ
   pub grows : new ≡ old ++ text
   pub holds : Holds text
@@ -59,41 +59,41 @@ IsFresh calls next = (j : ℕ) → next ≤ j → line_at calls j ≡ None
 
 -- the line that is stored for a client
 abbrev pub latest_line : List (ℕ × LineId) → ℕ → Option LineId
-latest_line asked c = lookup (nat_eq c) asked
+latest_line pending c = lookup (nat_eq c) pending
 
 -- what contracts see of the stored lines: those of each client's latest call that had to wait, and
 -- how many more fit into the allocated room
-pub record Stored : Type 0 where
+pub record PendingLinesView : Type 0 where
   pub entries : List (ℕ × LineId)
   pub room : ℕ
 
 -- a client's line is this one, and all others are unchanged
-abbrev pub IsLatest : List (ℕ × LineId) → ℕ → LineId → List (ℕ × LineId) → Type 0
-IsLatest old c line new =
+abbrev pub StoresLine : List (ℕ × LineId) → ℕ → LineId → List (ℕ × LineId) → Type 0
+StoresLine old c line new =
     (d : ℕ) → latest_line new d ≡ (if nat_eq c d then Some line else latest_line old d)
 
 -- all these answers, in order, each under the line that is stored for its client
-abbrev pub latest_text : List (ℕ × LineId) → List Told → List ℕ
-latest_text asked ts = flat_map (λ t. told_line (latest_line asked t.client) t.outcome) ts
+abbrev pub latest_text : List (ℕ × LineId) → List ReplyView → List ℕ
+latest_text pending ts = flat_map (λ t. reply_text (latest_line pending t.client) t.outcome) ts
 
 -- a client's line is stored, and it made the call at this place
 abbrev pub IsLineOf : List (ℕ × LineId) → List (ℕ × LineId) → ℕ → ℕ → Type 0
-IsLineOf asked calls c j =
-    (line : LineId) × ((latest_line asked c ≡ Some line) × (line_at calls j ≡ Some line))
+IsLineOf pending calls c j =
+    (line : LineId) × ((latest_line pending c ≡ Some line) × (line_at calls j ≡ Some line))
 
 -- after this history the line of each open call is stored for its client, and no call is noted at a
 -- place that is still to come
-pub record AreLines (asked calls : List (ℕ × LineId)) (h : History) : Type 0 where
+pub record AreLines (pending calls : List (ℕ × LineId)) (h : History) : Type 0 where
   pub fresh : IsFresh calls (place h)
-  pub stored : (w : WaitingCall) → In w (open_calls h) → IsLineOf asked calls w.client w.place
+  pub stored : (w : WaitingCall) → In w (open_calls h) → IsLineOf pending calls w.client w.place
 
 -- a core's entries since its Start are the one legal list for their events
-pub record IsLegal (core : Kept) : Type 0 where
+pub record IsLegal (core : CoreState) : Type 0 where
   pub starts : IsStart core.start
-  pub legal : LegalBehind core.start core.entries (events_of core.entries)
+  pub legal : LegalSince core.start core.entries (events_of core.entries)
 
 -- a core's entries are legal in this way, and its limit is that of a script's history
-pub record IsSound (core : Kept) : Type 0 where
+pub record IsSound (core : CoreState) : Type 0 where
   pub limit : core.limit ≡ entries_between_seals
   pub legal : IsLegal core
 
@@ -105,17 +105,17 @@ mark_of _ = Nothing
 
 -- the lines of clients, with that of a call that is just being noted before those that are stored
 abbrev pub own_first : Mark → LineId → List (ℕ × LineId) → List (ℕ × LineId)
-own_first (Call c) line asked = (c, line) ∷ asked
-own_first _ line asked = asked
+own_first (Call c) line pending = (c, line) ∷ pending
+own_first _ line pending = pending
 
 -- the answer to an event's own call, if it is already answered
-abbrev pub own_answers : Mark → ℕ → Option Outcome → List Told
+abbrev pub own_answers : Mark → ℕ → Option Outcome → List ReplyView
 own_answers (Call c) place (Some x) = record { client = c; place = place; outcome = x } ∷ []
 own_answers _ place x = []
 
 -- the text of that answer
 abbrev pub own_text : Mark → LineId → Option Outcome → List ℕ
-own_text (Call c) line (Some x) = told_line (Some line) x
+own_text (Call c) line (Some x) = reply_text (Some line) x
 own_text _ line x = []
 
 -- the clients after a line with this mark
@@ -129,10 +129,11 @@ calls_marked (Call c) line place rows = rows ++ (place, line) ∷ []
 calls_marked _ line place rows = rows
 
 -- after a call with no answer yet, its line is stored for its client; otherwise nothing changes
-abbrev pub IsAsked : Option Outcome → Mark → LineId → List (ℕ × LineId) → List (ℕ × LineId)
+abbrev pub StoresPendingLine : Option Outcome → Mark → LineId → List (ℕ × LineId) → List (ℕ
+    × LineId)
     → Type 0
-IsAsked None (Call c) line old new = IsLatest old c line new
-IsAsked _ _ line old new = new ≡ old
+StoresPendingLine None (Call c) line old new = StoresLine old c line new
+StoresPendingLine _ _ line old new = new ≡ old
 
 -- the greeting that is written for a line
 abbrev pub greeting_marked : Mark → LineId → List ℕ
@@ -140,15 +141,16 @@ greeting_marked Client line = reply_line (Some line.who) line.number (word.Outco
 greeting_marked _ line = []
 
 -- these lines were answered, and a text that may be written for them was appended
-pub record IsAnswered (s : Script) (cuts : List Cut) (old : List ℕ) (last : Script)
+pub record AnswersCuts (s : Script) (cuts : List Cut) (old : List ℕ) (last : Script)
     (new : List ℕ) : Type 0 where
   pub text : List ℕ
-  pub says : SaysAll s (map script_of cuts) last text
+  pub says : AnswersLines s (map script_of cuts) last text
   pub grows : new ≡ old ++ text
 
 -- the lines that a cutter gave between two states were answered in this way
-pub record Answers (held : Held) (s : Script) (old : List ℕ) (next : Held) (last : Script)
+pub record AnswersBetween (cutter : CutterView) (s : Script) (old : List ℕ) (next : CutterView)
+    (last : Script)
     (new : List ℕ) : Type 0 where
   pub cuts : List Cut
-  pub given : (more : List ℕ) → to_come held more ≡ cuts ++ to_come next more
-  pub answered : IsAnswered s cuts old last new
+  pub given : (more : List ℕ) → lines_to_come cutter more ≡ cuts ++ lines_to_come next more
+  pub answered : AnswersCuts s cuts old last new

@@ -9,7 +9,7 @@ use Rattle.pt_engine.specs.Scripts.{same_who, lines_of_who, number_named}
 
 -- which client each line so far belongs to, and the number of each client that has joined under a
 -- name
-pub record Known : Type 0 where
+pub record NamesView : Type 0 where
   pub seen : List Who
   pub clients : List (List ℕ × ℕ)
 
@@ -19,56 +19,59 @@ lines_in None = 0
 lines_in (Some row) = row.lines
 
 -- the number of the client that has joined, from its row
-abbrev pub client_in : Option Row → Option ℕ
-client_in None = None
-client_in (Some row) = row.client
+abbrev pub client_of_row : Option Row → Option ℕ
+client_of_row None = None
+client_of_row (Some row) = row.client
 
 -- the row of a name
-abbrev pub row_of : List (List ℕ × Row) → List ℕ → Option Row
-row_of rows name = lookup (bytes_eq name) rows
+abbrev pub row_of_name : List (List ℕ × Row) → List ℕ → Option Row
+row_of_name rows name = lookup (bytes_eq name) rows
 
 -- what is counted: the rows of names, and the lines of `*` and of `?`  [profile]
-pub record Counted : Type 0 where
+pub record LineCounts : Type 0 where
   pub rows : List (List ℕ × Row)
   pub star : ℕ
   pub unknown : ℕ
 
 -- the number of lines that are counted for a client
-abbrev pub lines_counted : Counted → Who → ℕ
-lines_counted k (Named name) = lines_in (row_of k.rows name)
+abbrev pub lines_counted : LineCounts → Who → ℕ
+lines_counted k (Named name) = lines_in (row_of_name k.rows name)
 lines_counted k Star = k.star
 lines_counted k Unknown = k.unknown
 
 -- the number of the client that has joined; `*` and `?` never do  [profile]
-abbrev pub client_counted : Counted → Who → Option ℕ
-client_counted k (Named name) = client_in (row_of k.rows name)
+abbrev pub client_counted : LineCounts → Who → Option ℕ
+client_counted k (Named name) = client_of_row (row_of_name k.rows name)
 client_counted k _ = None
 
 -- the same is counted for each client, named or not: a row with no line is equivalent to none
-pub record AreAlike (old new : Counted) : Type 0 where
+pub record HaveSameCounts (old new : LineCounts) : Type 0 where
   pub lines : (who : Who) → lines_counted new who ≡ lines_counted old who
   pub clients :
-      (name : List ℕ) → client_in (row_of new.rows name) ≡ client_in (row_of old.rows name)
+      (name : List ℕ) → client_of_row (row_of_name new.rows name)
+      ≡ client_of_row (row_of_name old.rows name)
 
 -- one more line of a client is counted, named or not
-pub record IsRaised (old : Counted) (who : Who) (new : Counted) : Type 0 where
+pub record CountsOneLine (old : LineCounts) (who : Who) (new : LineCounts) : Type 0 where
   pub lines :
       (other : Who)
       → lines_counted new other
       ≡ (if same_who who other then suc (lines_counted old other) else lines_counted old other)
   pub clients :
-      (name : List ℕ) → client_in (row_of new.rows name) ≡ client_in (row_of old.rows name)
+      (name : List ℕ) → client_of_row (row_of_name new.rows name)
+      ≡ client_of_row (row_of_name old.rows name)
 
 -- a client's number is noted, and no line is counted
-pub record IsGiven (old : Counted) (name : List ℕ) (c : ℕ) (new : Counted) : Type 0 where
+pub record NotesNumber (old : LineCounts) (name : List ℕ) (c : ℕ) (new : LineCounts) : Type 0 where
   pub lines : (who : Who) → lines_counted new who ≡ lines_counted old who
   pub clients :
       (other : List ℕ)
-      → client_in (row_of new.rows other)
-      ≡ (if bytes_eq name other then Some c else client_in (row_of old.rows other))
+      → client_of_row (row_of_name new.rows other)
+      ≡ (if bytes_eq name other then Some c else client_of_row (row_of_name old.rows other))
 
 -- the counts are those of the lines and clients so far
-pub record AreCounted (k : Counted) (total : ℕ) (known : Known) : Type 0 where
-  pub lines : (who : Who) → lines_counted k who ≡ lines_of_who known.seen who
-  pub all : total ≡ length known.seen
-  pub joined : (name : List ℕ) → client_in (row_of k.rows name) ≡ number_named known.clients name
+pub record AreCounted (k : LineCounts) (total : ℕ) (names : NamesView) : Type 0 where
+  pub lines : (who : Who) → lines_counted k who ≡ lines_of_who names.seen who
+  pub all : total ≡ length names.seen
+  pub joined : (name : List ℕ) → client_of_row (row_of_name k.rows name)
+      ≡ number_named names.clients name

@@ -18,11 +18,11 @@ use Rattle.pt_lines.specs.Replies.{reply_line}
 use Rattle.pt_model.specs.declared.entry.Entry.{Entry}
 use Rattle.pt_model.specs.declared.entry.Event.{Event}
 use Rattle.pt_model.specs.declared.entry.Event.TheVariants as event
-use Rattle.pt_model.specs.Starts.{Start, nothing}
+use Rattle.pt_model.specs.Starts.{Start, empty_start}
 use Rattle.pt_model.specs.Histories.{History}
 use Rattle.pt_model.specs.Clients.{is_alive}
-use Rattle.pt_model.specs.Records.{Told}
-use Rattle.pt_legal.specs.Cores.{Kept, past}
+use Rattle.pt_model.specs.Records.{ReplyView}
+use Rattle.pt_legal.specs.Cores.{CoreState, history_of}
 use Rattle.pt_engine.specs.declared.line_id.LineId.{LineId}
 
 -- what is known after some lines: what the history of the accepted ones begins with and its entries
@@ -41,11 +41,11 @@ abbrev pub entries_between_seals : ℕ
 entries_between_seals = 65536
 
 -- what is known before the first line
-abbrev pub begun : Script
-begun = record { start = nothing; entries = []; seen = []; clients = []; calls = [] }
+abbrev pub empty_script : Script
+empty_script = record { start = empty_start; entries = []; seen = []; clients = []; calls = [] }
 
--- the core after these lines; `past (core_of s)` is the history
-abbrev pub core_of : Script → Kept
+-- the core after these lines; `history_of (core_of s)` is the history
+abbrev pub core_of : Script → CoreState
 core_of s = record { start = s.start; entries = s.entries; limit = entries_between_seals }
 
 -- whether two lines are of one client; all lines of `*` are, and so are those of `?`  [profile]
@@ -68,9 +68,9 @@ abbrev pub number_named : List (List ℕ × ℕ) → List ℕ → Option ℕ
 number_named rows name = lookup (bytes_eq name) rows
 
 -- the number of a client that has joined; `*` and `?` never do  [profile]
-abbrev pub number_of : List (List ℕ × ℕ) → Who → Option ℕ
-number_of rows (Named name) = number_named rows name
-number_of rows _ = None
+abbrev pub number_of_who : List (List ℕ × ℕ) → Who → Option ℕ
+number_of_who rows (Named name) = number_named rows name
+number_of_who rows _ = None
 
 -- the line that made the call at a place
 abbrev pub line_at : List (ℕ × LineId) → ℕ → Option LineId
@@ -87,16 +87,17 @@ join_for h p None = Ok (event.Join p)
 join_for h p (Some c) = Err (refusal_of_hello h c)
 
 -- what any other line of a client asks for: hello comes first  [profile]
-abbrev pub of_client : (ℕ → Event) → Option ℕ → Result Event Refusal
-of_client make None = Err Nohello
-of_client make (Some c) = Ok (make c)
+abbrev pub line_of_client : (ℕ → Event) → Option ℕ → Result Event Refusal
+line_of_client make None = Err Nohello
+line_of_client make (Some c) = Ok (make c)
 
 -- what a line says, as an event; moments come under `*`, and nothing else does  [profile]
 abbrev pub event_for : Script → Who → ScriptBody → Result Event Refusal
-event_for s (Named name) (Hello p) = join_for (past (core_of s)) p (number_named s.clients name)
+event_for s (Named name) (Hello p) = join_for (history_of (core_of s)) p
+    (number_named s.clients name)
 event_for s (Named name) (Ask call) =
-    of_client (λ c. event.Call c call) (number_named s.clients name)
-event_for s (Named name) Die = of_client (λ c. event.Death c) (number_named s.clients name)
+    line_of_client (λ c. event.Call c call) (number_named s.clients name)
+event_for s (Named name) Die = line_of_client (λ c. event.Death c) (number_named s.clients name)
 event_for s Star (Tick clock t) = Ok (event.Moment clock t)
 event_for s _ _ = Err Syntax
 
@@ -110,13 +111,13 @@ abbrev pub event_of_line : Script → ScriptLine → Result Event Refusal
 event_of_line s line = event_of_body s line.who line.body
 
 -- an answer under the line that made its call
-abbrev pub told_line : Option LineId → Outcome → List ℕ
-told_line None x = []
-told_line (Some line) x = reply_line (Some line.who) line.number (word.Outcome x)
+abbrev pub reply_text : Option LineId → Outcome → List ℕ
+reply_text None x = []
+reply_text (Some line) x = reply_line (Some line.who) line.number (word.Outcome x)
 
 -- all these answers, in order, each under the line that made its call
-abbrev pub told_text : List (ℕ × LineId) → List Told → List ℕ
-told_text calls ts = flat_map (λ t. told_line (line_at calls t.place) t.outcome) ts
+abbrev pub replies_text : List (ℕ × LineId) → List ReplyView → List ℕ
+replies_text calls ts = flat_map (λ t. reply_text (line_at calls t.place) t.outcome) ts
 
 -- a refusal, under its own line  [profile]
 abbrev pub refusal_text : LineId → Refusal → List ℕ

@@ -1,9 +1,9 @@
 //! The answers that the entries of a core gave, from a given place on.
 
 ghost use Rattle.std.specs.Prelude.{◌≡◌, ◌∷◌, [], MatchOption};
-ghost use Rattle.pt_model.specs.Queries.{answers_behind};
-ghost use Rattle.pt_legal.specs.Cores.{shown};
-ghost use Rattle.pt_legal.specs.Replies.{told_of};
+ghost use Rattle.pt_model.specs.Queries.{answers_since};
+ghost use Rattle.pt_legal.specs.Cores.{core_state};
+ghost use Rattle.pt_legal.specs.Replies.{reply_view};
 
 use pt_legal::{LegalHistory, Reply};
 use std::marker::Model;
@@ -17,14 +17,14 @@ pub struct Answers<'a, C: LegalHistory> {
 
 impl<'a, C: LegalHistory> Model for Answers<'a, C> {
     ghost use Rattle.std.specs.Prelude.{List, drop};
-    ghost use Rattle.pt_model.specs.Records.{Told};
-    ghost use Rattle.pt_model.specs.Answers.{replies_behind};
-    ghost use Rattle.pt_legal.specs.Cores.{shown};
+    ghost use Rattle.pt_model.specs.Records.{ReplyView};
+    ghost use Rattle.pt_model.specs.Answers.{replies_since};
+    ghost use Rattle.pt_legal.specs.Cores.{core_state};
 
-    ghost Value = { List Told };
+    ghost Value = { List ReplyView };
 
     ghost view = { λ a. drop a.index
-        (replies_behind (shown (C.seen a.core.now)).start (C.seen a.core.now).entries) };
+        (replies_since (core_state (C.seen a.core.now)).start (C.seen a.core.now).entries) };
 }
 
 impl<'a, C: LegalHistory> Answers<'a, C> {
@@ -32,8 +32,8 @@ impl<'a, C: LegalHistory> Answers<'a, C> {
     /// stored.
     #[inline(always)]
     pub fn since(core: &'a C, place: u64) -> Answers<'a, C>
-        ensures { result ≡ answers_behind
-            (shown (C.seen core.now)).start place (C.seen core.now).entries }
+        ensures { result ≡ answers_since
+            (core_state (C.seen core.now)).start place (C.seen core.now).entries }
     {
         Answers {
             core,
@@ -45,7 +45,7 @@ impl<'a, C: LegalHistory> Answers<'a, C> {
     #[inline(always)]
     pub fn next(&mut self) -> Option<Reply>
         ensures { MatchOption result ((self.old ≡ []) × (self.new ≡ []))
-            (λ r. self.old ≡ told_of r ∷ self.new) }
+            (λ r. self.old ≡ reply_view r ∷ self.new) }
     {
         let reply = self.core.answer(self.index)?;
         self.index += 1;

@@ -1,13 +1,13 @@
 ghost use Rattle.std.specs.Prelude.{◌≡◌, ◌<◌, ◌+◌, ◌^◌, [], length, None, OnOk, IfErr};
 ghost use Rattle.pt_engine.specs.declared.mark.Mark.{Mark};
 
-use crate::accepting::{Calls, greet, note, tell_from};
-use crate::asked_lines::Asked;
+use crate::commit::{Calls, greet, note, write_replies_from};
 use crate::fault::ScriptFault;
 use crate::line_id::LineId;
 use crate::mark::{Mark, mark_of};
 use crate::names::{CountedLine, Names};
-use crate::telling::refuse;
+use crate::output::refuse;
+use crate::pending_lines::PendingLines;
 use http_server::Log;
 use pt_legal::LegalHistory;
 use pt_lines::{ClientName, ScriptBody, ScriptLine, Who, read_client};
@@ -32,15 +32,15 @@ pub const ENTRIES_BETWEEN_SEALS: u32 = 65_536;
 pub struct Engine<C: LegalHistory, A: Allocator + Copy = Global> {
     core: C,
     names: Names<A>,
-    asked: Asked<A>,
+    pending: PendingLines<A>,
     calls: Calls,
 }
 
 impl<C: LegalHistory, A: Allocator + Copy> Model for Engine<C, A> {
-    ghost use Rattle.pt_legal.specs.Cores.{past, shown};
-    ghost use Rattle.pt_engine.specs.Engines.{AreLines, Heard, IsSound};
+    ghost use Rattle.pt_legal.specs.Cores.{history_of, core_state};
+    ghost use Rattle.pt_engine.specs.Engines.{AreLines, EngineView, IsSound};
 
-    ghost Value = { Heard };
+    ghost Value = { EngineView };
 
     ghost view = { λ e. record {
       core = C.seen e.core;
@@ -49,8 +49,8 @@ impl<C: LegalHistory, A: Allocator + Copy> Model for Engine<C, A> {
       calls = e.calls.items;
     } };
 
-    ghost invariant = { λ e. IsSound (shown (C.seen e.core))
-        × AreLines e.asked.entries e.calls.items (past (shown (C.seen e.core))) };
+    ghost invariant = { λ e. IsSound (core_state (C.seen e.core))
+        × AreLines e.pending.entries e.calls.items (history_of (core_state (C.seen e.core))) };
 }
 
 // Not derived, so that code that drops an engine proves nothing of its parts.
@@ -59,34 +59,37 @@ impl<C: LegalHistory, A: Allocator + Copy> Drop for Engine<C, A> {
         let Engine {
             core: _,
             names: _,
-            asked: _,
+            pending: _,
             calls: _,
         } = self;
     }
 }
 
 impl<C: LegalHistory, A: Allocator + Copy> Engine<C, A> {
-    ghost use Rattle.pt_model.specs.Starts.{nothing};
+    ghost use Rattle.pt_model.specs.Starts.{empty_start};
     ghost use Rattle.pt_model.specs.Histories.{place};
     ghost use Rattle.pt_model.specs.Clients.{is_alive};
     ghost use Rattle.pt_grammar.specs.Script.{short_read};
-    ghost use Rattle.pt_legal.specs.Cores.{past, shown};
-    ghost use Rattle.pt_engine.specs.Scripts.{begun, core_of, event_for, event_of_line, join_for};
+    ghost use Rattle.pt_legal.specs.Cores.{history_of, core_state};
+    ghost use Rattle.pt_engine.specs.Scripts.{empty_script, core_of, event_for, event_of_line};
+    ghost use Rattle.pt_engine.specs.Scripts.{join_for};
     ghost use Rattle.pt_engine.specs.Scripts.{entries_between_seals};
-    ghost use Rattle.pt_engine.specs.Scripts.{lines_of_who, number_of, of_client, refusal_of_hello};
-    ghost use Rattle.pt_engine.specs.Says.{Says, SaysOf, SaysTo, refusal_of_event};
-    ghost use Rattle.pt_engine.specs.Engines.{Adds, known_by, mark_of};
+    ghost use Rattle.pt_engine.specs.Scripts.{lines_of_who, number_of_who, line_of_client};
+    ghost use Rattle.pt_engine.specs.Scripts.{refusal_of_hello};
+    ghost use Rattle.pt_engine.specs.LineAnswers.{AnswersLine, AnswersEvent, AnswersRequest};
+    ghost use Rattle.pt_engine.specs.LineAnswers.{refusal_of_event};
+    ghost use Rattle.pt_engine.specs.Engines.{Appends, as_script, mark_of};
 
     /// Creates an engine over an empty core. It has read no line.
     pub fn new(core: C, alloc: A) -> Engine<C, A>
-        requires { shown (C.seen core)
-            ≡ record { start = nothing; entries = []; limit = entries_between_seals } }
-        ensures { known_by result ≡ begun }
+        requires { core_state (C.seen core)
+            ≡ record { start = empty_start; entries = []; limit = entries_between_seals } }
+        ensures { as_script result ≡ empty_script }
     {
         Engine {
             core,
             names: Names::new(alloc),
-            asked: Asked::new(alloc),
+            pending: PendingLines::new(alloc),
             calls: Log::new(),
         }
     }
@@ -100,7 +103,7 @@ impl<C: LegalHistory, A: Allocator + Copy> Engine<C, A> {
 
     /// Returns the place of the next entry.
     pub fn entries(&self) -> u64
-        ensures { result ≡ place (past (core_of (known_by self.now))) }
+        ensures { result ≡ place (history_of (core_of (as_script self.now))) }
     {
         self.core.len()
     }
@@ -108,7 +111,7 @@ impl<C: LegalHistory, A: Allocator + Copy> Engine<C, A> {
     // Returns whether this client lives. The Death of a client that doesn't live is refused for
     // that alone.
     fn lives(&self, client: ClientId) -> bool
-        ensures { result ≡ is_alive (past (core_of (known_by self.now))) client }
+        ensures { result ≡ is_alive (history_of (core_of (as_script self.now))) client }
     {
         match self.core.would_refuse(&Event::Death(client)) {
             Some(Refusal::Dead | Refusal::Nohello) => false,
@@ -118,7 +121,7 @@ impl<C: LegalHistory, A: Allocator + Copy> Engine<C, A> {
 
     // Returns why a hello is refused under a name with which this client joined.
     fn refusal_of_hello(&self, client: ClientId) -> Refusal
-        ensures { result ≡ refusal_of_hello (past (core_of (known_by self.now))) client }
+        ensures { result ≡ refusal_of_hello (history_of (core_of (as_script self.now))) client }
     {
         if self.lives(client) {
             Refusal::Nohello
@@ -138,25 +141,26 @@ impl<C: LegalHistory, A: Allocator + Copy> Engine<C, A> {
     ) -> Result<(), ScriptFault>
         requires mark { mark.now ≡ mark_of event.now }
         requires counted { 0 < lines_of_who self.old.seen line.now.who }
-        requires first { mark.now ≡ Mark.Client → number_of self.old.clients line.now.who ≡ None }
+        requires first { mark.now ≡ Mark.Client → number_of_who self.old.clients line.now.who
+            ≡ None }
         ensures ok { OnOk result
-            (Adds (SaysOf (known_by self.old) event.now line.now (known_by self.new))
+            (Appends (AnswersEvent (as_script self.old) event.now line.now (as_script self.new))
             out.old.items out.new.items) }
-        ensures why { IfErr result (λ fault. fault ≡ ScriptFault.Memory) }
+        ensures err { IfErr result (λ fault. fault ≡ ScriptFault.Memory) }
     {
-        self.asked.reserve()?;
+        self.pending.reserve()?;
         match self.core.apply(event) {
             Ok(done) => {
                 note(
                     &mut self.names,
-                    &mut self.asked,
+                    &mut self.pending,
                     &mut self.calls,
                     mark,
                     line,
                     &done,
                 )?;
                 greet(out, mark, line)?;
-                tell_from(out, &self.core, &self.asked, mark, line, &done)?;
+                write_replies_from(out, &self.core, &self.pending, mark, line, &done)?;
                 Ok(())
             }
             Err(refusal) => {
@@ -176,11 +180,11 @@ impl<C: LegalHistory, A: Allocator + Copy> Engine<C, A> {
     ) -> Result<(), ScriptFault>
         requires counted { 0 < lines_of_who self.old.seen line.now.who }
         requires first { mark_of event.now ≡ Mark.Client
-            → number_of self.old.clients line.now.who ≡ None }
+            → number_of_who self.old.clients line.now.who ≡ None }
         ensures ok { OnOk result
-            (Adds (SaysOf (known_by self.old) event.now line.now (known_by self.new))
+            (Appends (AnswersEvent (as_script self.old) event.now line.now (as_script self.new))
             out.old.items out.new.items) }
-        ensures why { IfErr result (λ fault. fault ≡ ScriptFault.Memory) }
+        ensures err { IfErr result (λ fault. fault ≡ ScriptFault.Memory) }
     {
         self.run_marked(event, &mark_of(event), line, out)
     }
@@ -198,9 +202,9 @@ impl<C: LegalHistory, A: Allocator + Copy> Engine<C, A> {
         requires mark { mark_of event.now ≡ Mark.Call client }
         requires counted { 0 < lines_of_who self.old.seen line.now.who }
         ensures ok { OnOk result
-            (Adds (SaysOf (known_by self.old) event.now line.now (known_by self.new))
+            (Appends (AnswersEvent (as_script self.old) event.now line.now (as_script self.new))
             out.old.items out.new.items) }
-        ensures why { IfErr result (λ fault. fault ≡ ScriptFault.Memory) }
+        ensures err { IfErr result (λ fault. fault ≡ ScriptFault.Memory) }
     {
         self.run_marked(event, &Mark::Call(client), line, out)
     }
@@ -216,9 +220,9 @@ impl<C: LegalHistory, A: Allocator + Copy> Engine<C, A> {
     ) -> Result<(), ScriptFault>
         requires counted { 0 < lines_of_who self.old.seen line.now.who }
         ensures ok { OnOk result
-            (Adds (SaysOf (known_by self.old) (Event.Moment clock moment) line.now
-            (known_by self.new)) out.old.items out.new.items) }
-        ensures why { IfErr result (λ fault. fault ≡ ScriptFault.Memory) }
+            (Appends (AnswersEvent (as_script self.old) (Event.Moment clock moment) line.now
+            (as_script self.new)) out.old.items out.new.items) }
+        ensures err { IfErr result (λ fault. fault ≡ ScriptFault.Memory) }
     {
         self.run_marked(&Event::Moment(clock, moment), &Mark::Nothing, line, out)
     }
@@ -233,11 +237,11 @@ impl<C: LegalHistory, A: Allocator + Copy> Engine<C, A> {
         out: &mut Vec<u8, A>,
     ) -> Result<(), ScriptFault>
         requires counted { 0 < lines_of_who self.old.seen line.now.who }
-        requires client { client ≡ number_of self.old.clients line.now.who }
-        ensures ok { OnOk result (Adds (SaysTo (known_by self.old) line.now
-            (join_for (past (core_of (known_by self.old))) priority client)
-            (known_by self.new)) out.old.items out.new.items) }
-        ensures why { IfErr result (λ fault. fault ≡ ScriptFault.Memory) }
+        requires client { client ≡ number_of_who self.old.clients line.now.who }
+        ensures ok { OnOk result (Appends (AnswersRequest (as_script self.old) line.now
+            (join_for (history_of (core_of (as_script self.old))) priority client)
+            (as_script self.new)) out.old.items out.new.items) }
+        ensures err { IfErr result (λ fault. fault ≡ ScriptFault.Memory) }
     {
         match client {
             None => self.run(&Event::Join(priority), line, out),
@@ -256,10 +260,10 @@ impl<C: LegalHistory, A: Allocator + Copy> Engine<C, A> {
         out: &mut Vec<u8, A>,
     ) -> Result<(), ScriptFault>
         requires counted { 0 < lines_of_who self.old.seen line.now.who }
-        ensures ok { OnOk result (Adds (SaysTo (known_by self.old) line.now
-            (of_client (λ c. Event.Call c call) client)
-            (known_by self.new)) out.old.items out.new.items) }
-        ensures why { IfErr result (λ fault. fault ≡ ScriptFault.Memory) }
+        ensures ok { OnOk result (Appends (AnswersRequest (as_script self.old) line.now
+            (line_of_client (λ c. Event.Call c call) client)
+            (as_script self.new)) out.old.items out.new.items) }
+        ensures err { IfErr result (λ fault. fault ≡ ScriptFault.Memory) }
     {
         match client {
             Some(client) => self.run_call(&Event::Call(client, call), client, line, out),
@@ -276,10 +280,10 @@ impl<C: LegalHistory, A: Allocator + Copy> Engine<C, A> {
         out: &mut Vec<u8, A>,
     ) -> Result<(), ScriptFault>
         requires counted { 0 < lines_of_who self.old.seen line.now.who }
-        ensures ok { OnOk result (Adds (SaysTo (known_by self.old) line.now
-            (of_client (λ c. Event.Death c) client)
-            (known_by self.new)) out.old.items out.new.items) }
-        ensures why { IfErr result (λ fault. fault ≡ ScriptFault.Memory) }
+        ensures ok { OnOk result (Appends (AnswersRequest (as_script self.old) line.now
+            (line_of_client (λ c. Event.Death c) client)
+            (as_script self.new)) out.old.items out.new.items) }
+        ensures err { IfErr result (λ fault. fault ≡ ScriptFault.Memory) }
     {
         match client {
             Some(client) => self.run(&Event::Death(client), line, out),
@@ -298,11 +302,11 @@ impl<C: LegalHistory, A: Allocator + Copy> Engine<C, A> {
         out: &mut Vec<u8, A>,
     ) -> Result<(), ScriptFault>
         requires counted { 0 < lines_of_who self.old.seen line.now.who }
-        requires client { client ≡ number_of self.old.clients line.now.who }
-        ensures ok { OnOk result (Adds (SaysTo (known_by self.old) line.now
-            (event_for (known_by self.old) line.now.who body)
-            (known_by self.new)) out.old.items out.new.items) }
-        ensures why { IfErr result (λ fault. fault ≡ ScriptFault.Memory) }
+        requires client { client ≡ number_of_who self.old.clients line.now.who }
+        ensures ok { OnOk result (Appends (AnswersRequest (as_script self.old) line.now
+            (event_for (as_script self.old) line.now.who body)
+            (as_script self.new)) out.old.items out.new.items) }
+        ensures err { IfErr result (λ fault. fault ≡ ScriptFault.Memory) }
     {
         match (&line.who, body) {
             (Who::Named(_), ScriptBody::Hello(priority)) => self.hello(line, client, priority, out),
@@ -331,7 +335,7 @@ impl<C: LegalHistory, A: Allocator + Copy> Engine<C, A> {
 
     /// Returns the event that a line would ask for, or why it would ask for none. Counts nothing.
     pub fn event_of(&self, line: ScriptLine) -> Result<Event, Refusal>
-        ensures { result ≡ event_of_line (known_by self.now) line }
+        ensures { result ≡ event_of_line (as_script self.now) line }
     {
         let ScriptLine { who, body } = line;
         let client = self.names.client_of(&who);
@@ -349,7 +353,7 @@ impl<C: LegalHistory, A: Allocator + Copy> Engine<C, A> {
 
     /// Returns why an event would be refused for a reason other than lack of memory.  [profile]
     pub fn would_refuse(&self, event: &Event) -> Option<Refusal>
-        ensures { result ≡ refusal_of_event (known_by self.now) event.now }
+        ensures { result ≡ refusal_of_event (as_script self.now) event.now }
     {
         self.core.would_refuse(event)
     }
@@ -360,9 +364,9 @@ impl<C: LegalHistory, A: Allocator + Copy> Engine<C, A> {
     pub fn answer(&mut self, line: ScriptLine, out: &mut Vec<u8, A>) -> Result<(), ScriptFault>
         requires { length self.old.seen < 2 ^ 53 }
         ensures ok { OnOk result
-            (Adds (Says (known_by self.old) line (known_by self.new))
+            (Appends (AnswersLine (as_script self.old) line (as_script self.new))
             out.old.items out.new.items) }
-        ensures why { IfErr result (λ fault. fault ≡ ScriptFault.Memory) }
+        ensures err { IfErr result (λ fault. fault ≡ ScriptFault.Memory) }
     {
         let CountedLine { number, client } = self.names.count(&line.who)?;
         let ScriptLine { who, body } = line;
@@ -382,9 +386,9 @@ impl<C: LegalHistory, A: Allocator + Copy> Engine<C, A> {
     ) -> Result<(), ScriptFault>
         requires { length self.old.seen < 2 ^ 53 }
         ensures ok { OnOk result
-            (Adds (Says (known_by self.old) (short_read text.now) (known_by self.new))
+            (Appends (AnswersLine (as_script self.old) (short_read text.now) (as_script self.new))
             out.old.items out.new.items) }
-        ensures why { IfErr result (λ fault. fault ≡ ScriptFault.Memory) }
+        ensures err { IfErr result (λ fault. fault ≡ ScriptFault.Memory) }
     {
         let (who, rest) = read_client(text);
         let mut line = LineId { who, number: 0 };

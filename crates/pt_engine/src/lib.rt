@@ -18,17 +18,17 @@
 //! come only after a refused growth, and the texts of `ScriptFault`.
 #![tactic(auto)]
 
-mod accepting;
 mod answers;
-mod asked_lines;
-mod cut_lines;
+mod commit;
 mod engine;
 mod fault;
+mod input;
 mod line_body;
 mod line_id;
 mod mark;
 mod names;
-mod telling;
+mod output;
+mod pending_lines;
 
 pub use engine::{ENTRIES_BETWEEN_SEALS, Engine};
 pub use fault::ScriptFault;

@@ -7,13 +7,13 @@ ghost use Rattle.pt_grammar.specs.Script.{body_read};
 use crate::engine::Engine;
 use crate::fault::ScriptFault;
 use crate::line_id::LineId;
-use crate::telling::refuse;
+use crate::output::refuse;
 use pt_legal::LegalHistory;
 use pt_lines::{
     ScriptBody, Who, barrier_init_at_start, moment_at_start, mutex_init_at_start, named_at_start,
-    read_said, timed_at_start, timedwait_at_start, wait_at_start,
+    read_script_body, timed_at_start, timedwait_at_start, wait_at_start,
 };
-use pt_types::{Call, ClientId, Clock, MOST_IN_LINE, Name, Refusal};
+use pt_types::{Call, ClientId, Clock, MAX_LINE_LENGTH, Name, Refusal};
 use std::alloc::Allocator;
 
 // Returns the call of a client's line, if what follows the client begins like one that is frequent.
@@ -32,29 +32,29 @@ fn frequent_call(rest: &[u8]) -> Option<Call>
             }
         }
         (Some(b't'), Some(b'a')) => {
-            if let Some(asked) = timedwait_at_start(rest) {
-                return asked;
+            if let Some(parsed) = timedwait_at_start(rest) {
+                return parsed;
             }
         }
         (Some(b't'), _) => {
-            if let Some(said) = timed_at_start(rest)
-                && let Some(name) = Name::new(said.1)
+            if let Some(parsed) = timed_at_start(rest)
+                && let Some(name) = Name::new(parsed.1)
             {
-                return Some(said.0.on(name, said.2));
+                return Some(parsed.0.on(name, parsed.2));
             }
         }
         (Some(b'm'), _) => {
-            if let Some(said) = mutex_init_at_start(rest)
-                && let Some(name) = Name::new(said.0)
+            if let Some(parsed) = mutex_init_at_start(rest)
+                && let Some(name) = Name::new(parsed.0)
             {
-                return Some(Call::MutexInit(name, said.1, said.2));
+                return Some(Call::MutexInit(name, parsed.1, parsed.2));
             }
         }
         (Some(b'b'), _) => {
-            if let Some(said) = barrier_init_at_start(rest)
-                && let Some(name) = Name::new(said.0)
+            if let Some(parsed) = barrier_init_at_start(rest)
+                && let Some(name) = Name::new(parsed.0)
             {
-                return Some(Call::BarrierInit(name, said.1));
+                return Some(Call::BarrierInit(name, parsed.1));
             }
         }
         _ => {}
@@ -63,10 +63,10 @@ fn frequent_call(rest: &[u8]) -> Option<Call>
 }
 
 impl<C: LegalHistory, A: Allocator + Copy> Engine<C, A> {
-    ghost use Rattle.pt_grammar.specs.Script.{body_behind};
-    ghost use Rattle.pt_engine.specs.Scripts.{event_of_body, lines_of_who, number_of};
-    ghost use Rattle.pt_engine.specs.Says.{SaysTo};
-    ghost use Rattle.pt_engine.specs.Engines.{Adds, known_by};
+    ghost use Rattle.pt_grammar.specs.Script.{body_after};
+    ghost use Rattle.pt_engine.specs.Scripts.{event_of_body, lines_of_who, number_of_who};
+    ghost use Rattle.pt_engine.specs.LineAnswers.{AnswersRequest};
+    ghost use Rattle.pt_engine.specs.Engines.{Appends, as_script};
 
     // Answers a counted line by what follows its client and a space. It isn't inlined, so that
     // calls of one name need not clear space for it.
@@ -79,11 +79,11 @@ impl<C: LegalHistory, A: Allocator + Copy> Engine<C, A> {
         out: &mut Vec<u8, A>,
     ) -> Result<(), ScriptFault>
         requires counted { 0 < lines_of_who self.old.seen line.now.who }
-        requires client { client ≡ number_of self.old.clients line.now.who }
-        ensures ok { OnOk result (Adds (SaysTo (known_by self.old) line.now
-            (event_of_body (known_by self.old) line.now.who (body_read line.now.who rest.now))
-            (known_by self.new)) out.old.items out.new.items) }
-        ensures why { IfErr result (λ fault. fault ≡ ScriptFault.Memory) }
+        requires client { client ≡ number_of_who self.old.clients line.now.who }
+        ensures ok { OnOk result (Appends (AnswersRequest (as_script self.old) line.now
+            (event_of_body (as_script self.old) line.now.who (body_read line.now.who rest.now))
+            (as_script self.new)) out.old.items out.new.items) }
+        ensures err { IfErr result (λ fault. fault ≡ ScriptFault.Memory) }
     {
         if let Who::Named(_) = line.who
             && let Some(call) = frequent_call(rest)
@@ -95,7 +95,7 @@ impl<C: LegalHistory, A: Allocator + Copy> Engine<C, A> {
         {
             return self.tick(Clock::Real, moment, line, out);
         }
-        match read_said(&line.who, rest) {
+        match read_script_body(&line.who, rest) {
             Ok(body) => self.answer_body(line, client, body, out),
             Err(refusal) => refuse(out, line, refusal),
         }
@@ -112,12 +112,12 @@ impl<C: LegalHistory, A: Allocator + Copy> Engine<C, A> {
         out: &mut Vec<u8, A>,
     ) -> Result<(), ScriptFault>
         requires counted { 0 < lines_of_who self.old.seen line.now.who }
-        requires client { client ≡ number_of self.old.clients line.now.who }
-        ensures ok { OnOk result (Adds (SaysTo (known_by self.old) line.now
-            (event_of_body (known_by self.old) line.now.who
-            (body_behind line.now.who (option_copied rest.entry)))
-            (known_by self.new)) out.old.items out.new.items) }
-        ensures why { IfErr result (λ fault. fault ≡ ScriptFault.Memory) }
+        requires client { client ≡ number_of_who self.old.clients line.now.who }
+        ensures ok { OnOk result (Appends (AnswersRequest (as_script self.old) line.now
+            (event_of_body (as_script self.old) line.now.who
+            (body_after line.now.who (option_copied rest.entry)))
+            (as_script self.new)) out.old.items out.new.items) }
+        ensures err { IfErr result (λ fault. fault ≡ ScriptFault.Memory) }
     {
         let Some(rest) = rest else {
             return refuse(out, line, Refusal::Syntax);
@@ -128,7 +128,7 @@ impl<C: LegalHistory, A: Allocator + Copy> Engine<C, A> {
             if let Some(name) = Name::new(name) {
                 return self.ask(line, client, verb.call(name), out);
             }
-            if rest.len() <= MOST_IN_LINE {
+            if rest.len() <= MAX_LINE_LENGTH {
                 return refuse(out, line, Refusal::Syntax);
             }
         }

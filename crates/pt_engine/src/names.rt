@@ -1,7 +1,7 @@
 ghost use Rattle.std.specs.Prelude.{◌≡◌, ◌<◌, ◌++◌, ◌^◌, ◌∷◌, [], suc, length, Some, None};
 ghost use Rattle.std.specs.Prelude.{OnOk, OnErr, IfOk, IfErr, IfSome, IsSome};
 ghost use Rattle.std.specs.Bool.{OnTrue};
-ghost use Rattle.pt_engine.specs.Names.{client_in, lines_in, row_of};
+ghost use Rattle.pt_engine.specs.Names.{client_of_row, lines_in, row_of_name};
 ghost use Rattle.pt_engine.specs.Places.{key_at};
 
 use crate::fault::ScriptFault;
@@ -46,9 +46,9 @@ struct Counts<A: Allocator + Copy> {
 }
 
 impl<A: Allocator + Copy> Model for Counts<A> {
-    ghost use Rattle.pt_engine.specs.Names.{Counted};
+    ghost use Rattle.pt_engine.specs.Names.{LineCounts};
 
-    ghost Value = { Counted };
+    ghost Value = { LineCounts };
 
     ghost view = { λ k. record { rows = k.rows.entries; star = k.star; unknown = k.unknown } };
 }
@@ -68,9 +68,9 @@ pub struct Names<A: Allocator + Copy = Global> {
 
 impl<A: Allocator + Copy> Model for Names<A> {
     ghost use Rattle.std.specs.Prelude.{map};
-    ghost use Rattle.pt_engine.specs.Names.{Known, AreCounted};
+    ghost use Rattle.pt_engine.specs.Names.{NamesView, AreCounted};
 
-    ghost Value = { Known };
+    ghost Value = { NamesView };
 
     ghost view = { λ n. record { seen = map (λ p. p.0) n.seen.items; clients = n.joined.items } };
 
@@ -86,7 +86,7 @@ fn keyed<A: Allocator + Copy>(rows: &Rows<A>, index: usize) -> Option<(u64, usiz
 
 // Makes more hints if there are too few for the rows.
 fn grow<A: Allocator + Copy>(hints: &mut Hints<A>, rows: &Rows<A>) -> Result<(), ScriptFault>
-    ensures why { IfErr result (λ fault. fault ≡ ScriptFault.Memory) }
+    ensures err { IfErr result (λ fault. fault ≡ ScriptFault.Memory) }
 {
     match hints.grow_for(rows.len(), |index| keyed(rows, index)) {
         Ok(()) => Ok(()),
@@ -124,8 +124,8 @@ fn push_client<A: Allocator>(
     client: ClientId,
 ) -> Result<(), ScriptFault>
     ensures ok { OnOk result (joined.new.items ≡ joined.old.items ++ (name.now, client) ∷ []) }
-    ensures err { OnErr result (joined.new.items ≡ joined.old.items) }
-    ensures why { IfErr result (λ fault. fault ≡ ScriptFault.Memory) }
+    ensures unchanged { OnErr result (joined.new.items ≡ joined.old.items) }
+    ensures err { IfErr result (λ fault. fault ≡ ScriptFault.Memory) }
 {
     match joined.push((name.copied(), client)) {
         Ok(()) => Ok(()),
@@ -134,15 +134,16 @@ fn push_client<A: Allocator>(
 }
 
 impl<A: Allocator + Copy> Counts<A> {
-    ghost use Rattle.pt_engine.specs.Names.{client_counted, lines_counted, IsRaised, IsGiven};
-    ghost use Rattle.pt_engine.specs.Names.{AreAlike};
+    ghost use Rattle.pt_engine.specs.Names.{client_counted, lines_counted, CountsOneLine};
+    ghost use Rattle.pt_engine.specs.Names.{NotesNumber};
+    ghost use Rattle.pt_engine.specs.Names.{HaveSameCounts};
 
     // Adds the row of a name with no counted line, and returns its index.
     fn begin(&mut self, name: &ClientName) -> Result<usize, ScriptFault>
-        requires { row_of self.old.rows name.now ≡ None }
+        requires { row_of_name self.old.rows name.now ≡ None }
         ensures at { IfOk result (λ index. key_at self.new.rows index ≡ Some name.now) }
-        ensures alike { AreAlike self.old self.new }
-        ensures why { IfErr result (λ fault. fault ≡ ScriptFault.Memory) }
+        ensures alike { HaveSameCounts self.old self.new }
+        ensures err { IfErr result (λ fault. fault ≡ ScriptFault.Memory) }
     {
         grow(&mut self.hints, &self.rows)?;
         let index = self.rows.len();
@@ -178,8 +179,8 @@ impl<A: Allocator + Copy> Counts<A> {
     #[inline(never)]
     fn look_up(&mut self, name: &ClientName) -> Result<usize, ScriptFault>
         ensures at { IfOk result (λ index. key_at self.new.rows index ≡ Some name.now) }
-        ensures alike { AreAlike self.old self.new }
-        ensures why { IfErr result (λ fault. fault ≡ ScriptFault.Memory) }
+        ensures alike { HaveSameCounts self.old self.new }
+        ensures err { IfErr result (λ fault. fault ≡ ScriptFault.Memory) }
     {
         match self.rows.get_full(name) {
             Some(found) => {
@@ -194,10 +195,10 @@ impl<A: Allocator + Copy> Counts<A> {
     #[inline(always)]
     fn count_at(&mut self, index: usize, name: &ClientName) -> CountedLine
         requires at { key_at self.old.rows index ≡ Some name.now }
-        requires few { lines_in (row_of self.old.rows name.now) < 2 ^ 53 }
-        ensures number { result.number ≡ suc (lines_in (row_of self.old.rows name.now)) }
-        ensures client { result.client ≡ client_in (row_of self.old.rows name.now) }
-        ensures raised { IsRaised self.old (Who.Named name.now) self.new }
+        requires within { lines_in (row_of_name self.old.rows name.now) < 2 ^ 53 }
+        ensures number { result.number ≡ suc (lines_in (row_of_name self.old.rows name.now)) }
+        ensures client { result.client ≡ client_of_row (row_of_name self.old.rows name.now) }
+        ensures raised { CountsOneLine self.old (Who.Named name.now) self.new }
     {
         let (_, row) = self.rows.pair_mut(index);
         row.lines += 1;
@@ -210,13 +211,14 @@ impl<A: Allocator + Copy> Counts<A> {
     // Counts a line of this name.
     #[inline(always)]
     fn raise_named(&mut self, name: &ClientName) -> Result<CountedLine, ScriptFault>
-        requires { lines_in (row_of self.old.rows name.now) < 2 ^ 53 }
+        requires { lines_in (row_of_name self.old.rows name.now) < 2 ^ 53 }
         ensures number { IfOk result (λ n.
-            n.number ≡ suc (lines_in (row_of self.old.rows name.now))) }
-        ensures client { IfOk result (λ n. n.client ≡ client_in (row_of self.old.rows name.now)) }
-        ensures ok { OnOk result (IsRaised self.old (Who.Named name.now) self.new) }
-        ensures err { OnErr result (AreAlike self.old self.new) }
-        ensures why { IfErr result (λ fault. fault ≡ ScriptFault.Memory) }
+            n.number ≡ suc (lines_in (row_of_name self.old.rows name.now))) }
+        ensures client { IfOk result (λ n. n.client
+            ≡ client_of_row (row_of_name self.old.rows name.now)) }
+        ensures ok { OnOk result (CountsOneLine self.old (Who.Named name.now) self.new) }
+        ensures unchanged { OnErr result (HaveSameCounts self.old self.new) }
+        ensures err { IfErr result (λ fault. fault ≡ ScriptFault.Memory) }
     {
         if let Some(index) = self.hinted(name) {
             return Ok(self.count_at(index, name));
@@ -231,9 +233,9 @@ impl<A: Allocator + Copy> Counts<A> {
         requires { lines_counted self.old who.now < 2 ^ 53 }
         ensures number { IfOk result (λ n. n.number ≡ suc (lines_counted self.old who.now)) }
         ensures client { IfOk result (λ n. n.client ≡ client_counted self.old who.now) }
-        ensures ok { OnOk result (IsRaised self.old who.now self.new) }
-        ensures err { OnErr result (AreAlike self.old self.new) }
-        ensures why { IfErr result (λ fault. fault ≡ ScriptFault.Memory) }
+        ensures ok { OnOk result (CountsOneLine self.old who.now self.new) }
+        ensures unchanged { OnErr result (HaveSameCounts self.old self.new) }
+        ensures err { IfErr result (λ fault. fault ≡ ScriptFault.Memory) }
     {
         match who {
             Who::Named(name) => self.raise_named(name),
@@ -250,7 +252,7 @@ impl<A: Allocator + Copy> Counts<A> {
 
     // Returns the number of the client that joined under this name, if one did.
     fn client_named(&self, name: &ClientName) -> Option<ClientId>
-        ensures { result ≡ client_in (row_of self.now.rows name.now) }
+        ensures { result ≡ client_of_row (row_of_name self.now.rows name.now) }
     {
         match self.rows.get(name) {
             Some(row) => row.client,
@@ -260,15 +262,15 @@ impl<A: Allocator + Copy> Counts<A> {
 
     // Stores the number of the client with this name.
     fn give(&mut self, name: &ClientName, client: ClientId)
-        requires { IsSome (row_of self.old.rows name.now) }
-        ensures { IsGiven self.old name.now client self.new }
+        requires { IsSome (row_of_name self.old.rows name.now) }
+        ensures { NotesNumber self.old name.now client self.new }
     {
         self.rows.get_mut(name).unwrap().client = Some(client);
     }
 }
 
 impl<A: Allocator + Copy> Names<A> {
-    ghost use Rattle.pt_engine.specs.Scripts.{lines_of_who, number_of};
+    ghost use Rattle.pt_engine.specs.Scripts.{lines_of_who, number_of_who};
     ghost use Rattle.pt_engine.specs.Scripts.{clients_joined};
 
     /// Creates a set of names with no client and no line, which allocates nothing.
@@ -298,7 +300,7 @@ impl<A: Allocator + Copy> Names<A> {
 
     /// Returns the number of the client that joined under a line's name, if one did.
     pub fn client_of(&self, who: &Who) -> Option<ClientId>
-        ensures { result ≡ number_of self.now.clients who.now }
+        ensures { result ≡ number_of_who self.now.clients who.now }
     {
         match who {
             Who::Named(name) => self.counts.client_named(name),
@@ -311,11 +313,11 @@ impl<A: Allocator + Copy> Names<A> {
     pub fn count(&mut self, who: &Who) -> Result<CountedLine, ScriptFault>
         requires { length self.old.seen < 2 ^ 53 }
         ensures number { IfOk result (λ n. n.number ≡ suc (lines_of_who self.old.seen who.now)) }
-        ensures client { IfOk result (λ n. n.client ≡ number_of self.old.clients who.now) }
+        ensures client { IfOk result (λ n. n.client ≡ number_of_who self.old.clients who.now) }
         ensures ok { OnOk result
             (self.new ≡ record self.old { seen = self.old.seen ++ who.now ∷ [] }) }
-        ensures err { OnErr result (self.new ≡ self.old) }
-        ensures why { IfErr result (λ fault. fault ≡ ScriptFault.Memory) }
+        ensures unchanged { OnErr result (self.new ≡ self.old) }
+        ensures err { IfErr result (λ fault. fault ≡ ScriptFault.Memory) }
     {
         let counted = self.counts.raise(who)?;
         self.total += 1;
@@ -328,11 +330,11 @@ impl<A: Allocator + Copy> Names<A> {
     #[tactic(auto, using(crate::proofs::Rows::has_row, crate::proofs::Rows::joined_counted))]
     pub fn join(&mut self, who: &Who, client: ClientId) -> Result<(), ScriptFault>
         requires counted { 0 < lines_of_who self.old.seen who.now }
-        requires first { number_of self.old.clients who.now ≡ None }
+        requires first { number_of_who self.old.clients who.now ≡ None }
         ensures ok { OnOk result (self.new
             ≡ record self.old { clients = clients_joined who.now client self.old.clients }) }
-        ensures err { OnErr result (self.new ≡ self.old) }
-        ensures why { IfErr result (λ fault. fault ≡ ScriptFault.Memory) }
+        ensures unchanged { OnErr result (self.new ≡ self.old) }
+        ensures err { IfErr result (λ fault. fault ≡ ScriptFault.Memory) }
     {
         if let Who::Named(name) = who {
             push_client(&mut self.joined, name, client)?;

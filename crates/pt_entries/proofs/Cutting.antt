@@ -5,7 +5,7 @@ use Rattle.std.proofs.lemmas.Bool.Decides.{Decides-eqb}
 use Rattle.std.proofs.lemmas.List.Folds.{list_all-append}
 use Rattle.std.specs.Prelude.{codes}
 use Rattle.std.specs.List.{list_all}
-use Rattle.pt_fields.specs.Fields.{behind_spaces, spaced}
+use Rattle.pt_fields.specs.Fields.{after_spaces, join_with_spaces}
 use Rattle.pt_fields.proofs.TestLemmas.{and_parts, and_true}
 
 -- the bytes before the first of this one
@@ -94,12 +94,12 @@ avoids_append stop xs ys one two =
     ∙ and_true (list_all (λ b. not (b == stop)) xs) (list_all (λ b. not (b == stop)) ys) one two
 
 -- words separated by spaces have no comma if none of them has
-behind_avoid : (words : List (List ℕ)) → AllAvoid 44 words → Avoids 44 (behind_spaces words)
+behind_avoid : (words : List (List ℕ)) → AllAvoid 44 words → Avoids 44 (after_spaces words)
 behind_avoid [] h = refl
 behind_avoid (word ∷ words) h =
-    avoids_append 44 word (behind_spaces words) h.0 (behind_avoid words h.1)
+    avoids_append 44 word (after_spaces words) h.0 (behind_avoid words h.1)
 
 pub spaced_avoid : (word : List ℕ) (words : List (List ℕ)) → Avoids 44 word → AllAvoid 44 words
-    → Avoids 44 (spaced word words)
+    → Avoids 44 (join_with_spaces word words)
 spaced_avoid word words one more =
-    avoids_append 44 word (behind_spaces words) one (behind_avoid words more)
+    avoids_append 44 word (after_spaces words) one (behind_avoid words more)

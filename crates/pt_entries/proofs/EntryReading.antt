@@ -8,11 +8,11 @@ use Rattle.std.specs.Prelude.{codes}
 use Rattle.std.specs.Option.{option_map}
 use Rattle.std.specs.Str.{bytes_eq}
 use Rattle.std.specs.Str.Parse.{digits_value}
-use Rattle.pt_types.specs.Limits.{second}
+use Rattle.pt_types.specs.Limits.{nanoseconds_per_second}
 use Rattle.pt_types.specs.Words.{outcome_word}
 use Rattle.pt_types.specs.declared.time.Clock.{Clock}
 use Rattle.pt_types.specs.declared.time.Clock.TheVariants.{Real, Mono}
-use Rattle.pt_types.specs.declared.call.Call.{Call as Asked}
+use Rattle.pt_types.specs.declared.call.Call.{Call as FunctionCall}
 use Rattle.pt_types.specs.declared.outcome.Outcome.{Outcome}
 use Rattle.pt_types.specs.declared.outcome.Outcome.TheVariants.{Done, Serial, Eperm, Einval, Ebusy}
 use Rattle.pt_types.specs.declared.outcome.Outcome.TheVariants.{Eagain, Edeadlk, Etimedout}
@@ -117,7 +117,7 @@ named_entry name args =
     (reply_in (only_argument (later_arguments later))))
     (cond (bytes_eq name (codes "Moment"))
     (Some (Moment (clock_in (first_argument args))
-    (second * number_in (first_argument later)
+    (nanoseconds_per_second * number_in (first_argument later)
     + number_in (only_argument (later_arguments later)))))
     (cond (bytes_eq name (codes "Grant")) (grant_entry first (reply_in (only_argument later)))
     (cond (bytes_eq name (codes "Death")) (Some (Death n))
@@ -155,7 +155,7 @@ join_back c p hc hp =
     (drop 1 (past 44 ((decimal c ++ codes ", " ++ decimal p) ++ codes ")"))))))) one
     ∙ ap (λ b. Some (Join c b)) two
 
-call_back : (c : ℕ) (call : Asked) (x : Option Outcome) → c < 2 ^ 64 → IsLineCall call
+call_back : (c : ℕ) (call : FunctionCall) (x : Option Outcome) → c < 2 ^ 64 → IsLineCall call
     → entry_in (entry_text (Call c call x)) ≡ Some (Call c call x)
 call_back c call x hc hcall =
     let text = call_text call in
@@ -180,10 +180,10 @@ call_back c call x hc hcall =
 moment_back : (k : Clock) (t : ℕ) → t < 2 ^ 64
     → entry_in (entry_text (Moment k t)) ≡ Some (Moment k t)
 moment_back k t h =
-    let seconds = t / second in
-    let rest = t % second in
-    let split = div-add-mod t second in
-    let high : seconds < 2 ^ 64 = omega (arith, div-le_self t second, h) in
+    let seconds = t / nanoseconds_per_second in
+    let rest = t % nanoseconds_per_second in
+    let split = div-add-mod t nanoseconds_per_second in
+    let high : seconds < 2 ^ 64 = omega (arith, div-le_self t nanoseconds_per_second, h) in
     let low : rest < 2 ^ 64 = omega (arith, split, h) in
     let more = decimal seconds ++ codes ", " ++ decimal rest in
     let args = (clock_word k ++ codes ", " ++ more) ++ codes ")" in
@@ -195,11 +195,11 @@ moment_back k t h =
     ap (λ l. number_in (upto 41 (drop 1 (past 44 l)))) behind
     ∙ ap (λ l. number_in (upto 41 l)) (later seconds (decimal rest) high)
     ∙ only_number rest low in
-    ap (λ a. Some (Moment a (second * number_in (upto 44 (drop 1 (past 44 args)))
+    ap (λ a. Some (Moment a (nanoseconds_per_second * number_in (upto 44 (drop 1 (past 44 args)))
     + number_in (upto 41 (drop 1 (past 44 (drop 1 (past 44 args)))))))) one
-    ∙ ap (λ n. Some (Moment k (second * n
+    ∙ ap (λ n. Some (Moment k (nanoseconds_per_second * n
     + number_in (upto 41 (drop 1 (past 44 (drop 1 (past 44 args)))))))) two
-    ∙ ap (λ n. Some (Moment k (second * seconds + n))) three
+    ∙ ap (λ n. Some (Moment k (nanoseconds_per_second * seconds + n))) three
     ∙ ap (λ n. Some (Moment k n)) split
 
 grant_back : (j : ℕ) (x : Outcome) → j < 2 ^ 64

@@ -13,7 +13,7 @@ use Rattle.pt_types.specs.declared.call.Call.TheVariants.{Clockwrlock, Rwunlock,
 use Rattle.pt_types.specs.declared.call.Call.TheVariants.{CondInit, CondDestroy, Wait, Timedwait}
 use Rattle.pt_types.specs.declared.call.Call.TheVariants.{Clockwait, Signal, Broadcast, BarrierInit}
 use Rattle.pt_types.specs.declared.call.Call.TheVariants.{Bwait, BarrierDestroy}
-use Rattle.pt_fields.specs.Fields.{spaced}
+use Rattle.pt_fields.specs.Fields.{join_with_spaces}
 use Rattle.pt_grammar.specs.Grammar.{clock_name, robust_word}
 
 -- the word of a kind of mutex; `default` is read as `normal`, and written so  [profile]
@@ -92,4 +92,4 @@ call_arguments (BarrierDestroy n) = n ∷ []
 
 -- the text of a call: the line that makes it, without its client
 abbrev pub call_text : Call → List ℕ
-call_text call = spaced (call_word call) (call_arguments call)
+call_text call = join_with_spaces (call_word call) (call_arguments call)

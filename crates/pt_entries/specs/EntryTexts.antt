@@ -1,7 +1,7 @@
 -- EntryTexts: the text of an entry: its name, and in parentheses what it says, with the whole call.
 use Rattle.std.specs.Prelude.{ℕ, ◌++◌, ◌/◌, ◌%◌, List, [], ◌∷◌, Option, None, Some, codes, decimal}
 use Rattle.std.specs.Prelude.{drop, length, min}
-use Rattle.pt_types.specs.Limits.{second}
+use Rattle.pt_types.specs.Limits.{nanoseconds_per_second}
 use Rattle.pt_types.specs.Words.{outcome_word}
 use Rattle.pt_types.specs.declared.time.Clock.{Clock}
 use Rattle.pt_types.specs.declared.time.Clock.TheVariants.{Real, Mono}
@@ -37,7 +37,7 @@ entry_text (Call c call x) =
     applied (codes "Call") (decimal c) (call_text call ∷ reply_word x ∷ [])
 entry_text (Death c) = applied (codes "Death") (decimal c) []
 entry_text (Moment k t) =
-    applied (codes "Moment") (clock_word k) (decimal (t / second) ∷ decimal (t % second) ∷ [])
+    applied (codes "Moment") (clock_word k) (decimal (t / nanoseconds_per_second) ∷ decimal (t % nanoseconds_per_second) ∷ [])
 entry_text (Grant j x) = applied (codes "Grant") (decimal j) (outcome_word x ∷ [])
 entry_text (Trip b) = applied (codes "Trip") (decimal b) []
 entry_text (Yield m) = applied (codes "Yield") (decimal m) []

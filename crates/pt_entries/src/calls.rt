@@ -1,8 +1,8 @@
 ghost use Rattle.std.specs.Prelude.{◌≡◌, ◌++◌, ◌∷◌, [], decimal, OnOk, OnErr, IfErr};
-ghost use Rattle.pt_fields.specs.Fields.{behind_spaces};
-ghost use Rattle.pt_grammar.specs.Grammar.{clock_name, robust_word as robust_text};
+ghost use Rattle.pt_fields.specs.Fields.{after_spaces};
+ghost use Rattle.pt_grammar.specs.Grammar.{clock_name, robust_word};
 ghost use Rattle.pt_entries.specs.CallTexts.{call_arguments, call_text, deadline_words};
-ghost use Rattle.pt_entries.specs.CallTexts.{call_word as word_of_call, kind_word as kind_text};
+ghost use Rattle.pt_entries.specs.CallTexts.{call_word, kind_word};
 
 use crate::appending::{put, put_number_word, put_word};
 use pt_types::{Call, Clock, Deadline, MutexKind, Name, NamedVerb, Refusal};
@@ -10,7 +10,7 @@ use std::alloc::Allocator;
 
 // Returns the word of a call.
 fn call_word(call: &Call) -> &'static [u8]
-    ensures { result.now ≡ word_of_call call.now }
+    ensures { result.now ≡ call_word call.now }
 {
     match call {
         Call::MutexInit(_, _, _) => b"mutex-init",
@@ -46,7 +46,7 @@ fn call_word(call: &Call) -> &'static [u8]
 }
 
 fn kind_word(kind: MutexKind) -> &'static [u8]
-    ensures { result.now ≡ kind_text kind }
+    ensures { result.now ≡ kind_word kind }
 {
     match kind {
         MutexKind::Normal => b"normal",
@@ -56,7 +56,7 @@ fn kind_word(kind: MutexKind) -> &'static [u8]
 }
 
 fn robust_word(robust: bool) -> &'static [u8]
-    ensures { result.now ≡ robust_text robust }
+    ensures { result.now ≡ robust_word robust }
 {
     if robust { b"robust" } else { b"stalled" }
 }
@@ -73,8 +73,8 @@ fn clock_word(clock: Clock) -> &'static [u8]
 // Appends a deadline, with a space before each of its numbers.
 fn put_deadline<A: Allocator + Copy>(out: &mut Vec<u8, A>, due: &Deadline) -> Result<(), Refusal>
     ensures ok { OnOk result
-        (out.new.items ≡ out.old.items ++ behind_spaces (deadline_words due.now)) }
-    ensures why { IfErr result (λ refusal. refusal ≡ Refusal.Enomem) }
+        (out.new.items ≡ out.old.items ++ after_spaces (deadline_words due.now)) }
+    ensures err { IfErr result (λ refusal. refusal ≡ Refusal.Enomem) }
 {
     put_number_word(out, due.sec())?;
     put_number_word(out, due.nsec())
@@ -87,8 +87,8 @@ fn put_until<A: Allocator + Copy>(
     due: &Deadline,
 ) -> Result<(), Refusal>
     ensures ok { OnOk result
-        (out.new.items ≡ out.old.items ++ behind_spaces (name.now ∷ deadline_words due.now)) }
-    ensures why { IfErr result (λ refusal. refusal ≡ Refusal.Enomem) }
+        (out.new.items ≡ out.old.items ++ after_spaces (name.now ∷ deadline_words due.now)) }
+    ensures err { IfErr result (λ refusal. refusal ≡ Refusal.Enomem) }
 {
     put_word(out, name.as_bytes())?;
     put_deadline(out, due)
@@ -102,8 +102,8 @@ fn put_by_clock<A: Allocator + Copy>(
     due: &Deadline,
 ) -> Result<(), Refusal>
     ensures ok { OnOk result (out.new.items ≡ out.old.items
-        ++ behind_spaces (name.now ∷ clock_name clock ∷ deadline_words due.now)) }
-    ensures why { IfErr result (λ refusal. refusal ≡ Refusal.Enomem) }
+        ++ after_spaces (name.now ∷ clock_name clock ∷ deadline_words due.now)) }
+    ensures err { IfErr result (λ refusal. refusal ≡ Refusal.Enomem) }
 {
     put_word(out, name.as_bytes())?;
     put_word(out, clock_word(clock))?;
@@ -113,8 +113,8 @@ fn put_by_clock<A: Allocator + Copy>(
 // Appends the arguments of a call, with a space before each.
 fn put_arguments<A: Allocator + Copy>(out: &mut Vec<u8, A>, call: &Call) -> Result<(), Refusal>
     ensures ok { OnOk result
-        (out.new.items ≡ out.old.items ++ behind_spaces (call_arguments call.now)) }
-    ensures why { IfErr result (λ refusal. refusal ≡ Refusal.Enomem) }
+        (out.new.items ≡ out.old.items ++ after_spaces (call_arguments call.now)) }
+    ensures err { IfErr result (λ refusal. refusal ≡ Refusal.Enomem) }
 {
     match call {
         Call::MutexInit(name, kind, robust) => {
@@ -168,7 +168,7 @@ fn put_arguments<A: Allocator + Copy>(out: &mut Vec<u8, A>, call: &Call) -> Resu
 /// growth was refused.
 pub fn write_call<A: Allocator + Copy>(out: &mut Vec<u8, A>, call: &Call) -> Result<(), Refusal>
     ensures ok { OnOk result (out.new.items ≡ out.old.items ++ call_text call.now) }
-    ensures why { IfErr result (λ refusal. refusal ≡ Refusal.Enomem) }
+    ensures err { IfErr result (λ refusal. refusal ≡ Refusal.Enomem) }
 {
     put(out, call_word(call))?;
     put_arguments(out, call)

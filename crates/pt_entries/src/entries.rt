@@ -1,8 +1,8 @@
 ghost use Rattle.std.specs.Prelude.{◌≡◌, ◌++◌, ◌∷◌, [], codes, decimal, OnOk, OnErr, IfOk};
 ghost use Rattle.std.specs.Prelude.{IfErr};
-ghost use Rattle.pt_types.specs.Limits.{second};
-ghost use Rattle.pt_entries.specs.EntryTexts.{aligned, applied, clock_word as clock_text};
-ghost use Rattle.pt_entries.specs.EntryTexts.{entry_text, placed_entry, reply_word as reply_text};
+ghost use Rattle.pt_types.specs.Limits.{nanoseconds_per_second};
+ghost use Rattle.pt_entries.specs.EntryTexts.{aligned, applied, clock_word};
+ghost use Rattle.pt_entries.specs.EntryTexts.{entry_text, placed_entry, reply_word};
 
 use crate::appending::{put, put_number};
 use crate::calls::write_call;
@@ -12,7 +12,7 @@ use pt_types::{Call, ClientId, Clock, Moment, Outcome, Refusal};
 use std::alloc::Allocator;
 
 fn clock_word(clock: Clock) -> &'static [u8]
-    ensures { result.now ≡ clock_text clock }
+    ensures { result.now ≡ clock_word clock }
 {
     match clock {
         Clock::Real => b"Real",
@@ -21,7 +21,7 @@ fn clock_word(clock: Clock) -> &'static [u8]
 }
 
 fn reply_word(reply: Option<Outcome>) -> &'static [u8]
-    ensures { result.now ≡ reply_text reply }
+    ensures { result.now ≡ reply_word reply }
 {
     match reply {
         Some(outcome) => outcome.word().as_bytes(),
@@ -32,7 +32,7 @@ fn reply_word(reply: Option<Outcome>) -> &'static [u8]
 // Appends an entry of one number: its name, which ends with a parenthesis, and the number.
 fn put_single<A: Allocator + Copy>(out: &mut Vec<u8, A>, name: &[u8], n: u64) -> Result<(), Refusal>
     ensures ok { OnOk result (out.new.items ≡ out.old.items ++ name.now ++ decimal n ++ codes ")") }
-    ensures why { IfErr result (λ refusal. refusal ≡ Refusal.Enomem) }
+    ensures err { IfErr result (λ refusal. refusal ≡ Refusal.Enomem) }
 {
     put(out, name)?;
     put_number(out, n)?;
@@ -48,7 +48,7 @@ fn put_pair<A: Allocator + Copy>(
 ) -> Result<(), Refusal>
     ensures ok { OnOk result (out.new.items
         ≡ out.old.items ++ name.now ++ decimal n ++ codes ", " ++ word.now ++ codes ")") }
-    ensures why { IfErr result (λ refusal. refusal ≡ Refusal.Enomem) }
+    ensures err { IfErr result (λ refusal. refusal ≡ Refusal.Enomem) }
 {
     put(out, name)?;
     put_number(out, n)?;
@@ -60,7 +60,7 @@ fn put_pair<A: Allocator + Copy>(
 fn put_join<A: Allocator + Copy>(out: &mut Vec<u8, A>, c: u64, p: u64) -> Result<(), Refusal>
     ensures ok { OnOk result (out.new.items
         ≡ out.old.items ++ applied (codes "Join") (decimal c) (decimal p ∷ [])) }
-    ensures why { IfErr result (λ refusal. refusal ≡ Refusal.Enomem) }
+    ensures err { IfErr result (λ refusal. refusal ≡ Refusal.Enomem) }
 {
     put(out, b"Join(")?;
     put_number(out, c)?;
@@ -76,7 +76,7 @@ fn put_moment<A: Allocator + Copy>(
 ) -> Result<(), Refusal>
     ensures ok { OnOk result (out.new.items
         ≡ out.old.items ++ entry_text (Entry.Moment clock moment)) }
-    ensures why { IfErr result (λ refusal. refusal ≡ Refusal.Enomem) }
+    ensures err { IfErr result (λ refusal. refusal ≡ Refusal.Enomem) }
 {
     put(out, b"Moment(")?;
     put(out, clock_word(clock))?;
@@ -95,7 +95,7 @@ fn put_call<A: Allocator + Copy>(
 ) -> Result<(), Refusal>
     ensures ok { OnOk result (out.new.items
         ≡ out.old.items ++ entry_text (Entry.Call c call.now reply)) }
-    ensures why { IfErr result (λ refusal. refusal ≡ Refusal.Enomem) }
+    ensures err { IfErr result (λ refusal. refusal ≡ Refusal.Enomem) }
 {
     put(out, b"Call(")?;
     put_number(out, c.0)?;
@@ -109,7 +109,7 @@ fn put_call<A: Allocator + Copy>(
 // Appends the text of an entry, or a front of it if a growth was refused.
 fn put_entry<A: Allocator + Copy>(out: &mut Vec<u8, A>, entry: &Entry) -> Result<(), Refusal>
     ensures ok { OnOk result (out.new.items ≡ out.old.items ++ entry_text entry.now) }
-    ensures why { IfErr result (λ refusal. refusal ≡ Refusal.Enomem) }
+    ensures err { IfErr result (λ refusal. refusal ≡ Refusal.Enomem) }
 {
     match entry {
         Entry::Join(c, p) => put_join(out, c.0, p.level() as u64),
@@ -126,7 +126,7 @@ fn put_entry<A: Allocator + Copy>(out: &mut Vec<u8, A>, entry: &Entry) -> Result
 // Appends a place, aligned with those of other entries.
 fn put_place<A: Allocator + Copy>(out: &mut Vec<u8, A>, place: u64) -> Result<(), Refusal>
     ensures ok { OnOk result (out.new.items ≡ out.old.items ++ aligned place) }
-    ensures why { IfErr result (λ refusal. refusal ≡ Refusal.Enomem) }
+    ensures err { IfErr result (λ refusal. refusal ≡ Refusal.Enomem) }
 {
     let mut digits = Buffer::new();
     let text = digits.format(place).as_bytes();
@@ -141,7 +141,7 @@ const ENTRY: usize = 128;
 // Creates a buffer for an entry.
 fn entry_buffer<A: Allocator + Copy>(alloc: A) -> Result<Vec<u8, A>, Refusal>
     ensures ok { IfOk result (λ text. text.items ≡ []) }
-    ensures why { IfErr result (λ refusal. refusal ≡ Refusal.Enomem) }
+    ensures err { IfErr result (λ refusal. refusal ≡ Refusal.Enomem) }
 {
     match Vec::with_capacity(alloc, ENTRY) {
         Ok(text) => Ok(text),
@@ -153,8 +153,8 @@ fn entry_buffer<A: Allocator + Copy>(alloc: A) -> Result<Vec<u8, A>, Refusal>
 /// [profile]
 pub fn write_entry<A: Allocator + Copy>(out: &mut Vec<u8, A>, entry: &Entry) -> Result<(), Refusal>
     ensures ok { OnOk result (out.new.items ≡ out.old.items ++ entry_text entry.now) }
-    ensures err { OnErr result (out.new.items ≡ out.old.items) }
-    ensures why { IfErr result (λ refusal. refusal ≡ Refusal.Enomem) }
+    ensures unchanged { OnErr result (out.new.items ≡ out.old.items) }
+    ensures err { IfErr result (λ refusal. refusal ≡ Refusal.Enomem) }
 {
     let mut text = entry_buffer(*out.allocator())?;
     put_entry(&mut text, entry)?;
@@ -169,8 +169,8 @@ pub fn write_placed_entry<A: Allocator + Copy>(
     entry: &Entry,
 ) -> Result<(), Refusal>
     ensures ok { OnOk result (out.new.items ≡ out.old.items ++ placed_entry place entry.now) }
-    ensures err { OnErr result (out.new.items ≡ out.old.items) }
-    ensures why { IfErr result (λ refusal. refusal ≡ Refusal.Enomem) }
+    ensures unchanged { OnErr result (out.new.items ≡ out.old.items) }
+    ensures err { IfErr result (λ refusal. refusal ≡ Refusal.Enomem) }
 {
     let mut text = entry_buffer(*out.allocator())?;
     put(&mut text, b" ")?;

@@ -1,14 +1,14 @@
 -- Play: events played by the definitions alone.
 use Rattle.std.specs.Prelude.{ℕ, zero, suc, List, [], ◌∷◌, ◌++◌, map, Option, Some, None, Result}
 use Rattle.std.specs.Prelude.{Ok, Err}
-use Rattle.pt_types.specs.Limits.{most_entries}
+use Rattle.pt_types.specs.Limits.{max_entries}
 use Rattle.pt_types.specs.Times.{Timespec}
 use Rattle.pt_types.specs.declared.outcome.Outcome.{Outcome}
 use Rattle.pt_types.specs.declared.outcome.Refusal.{Refusal}
 use Rattle.pt_model.specs.declared.entry.Entry.{Entry}
 use Rattle.pt_model.specs.declared.entry.Event.{Event}
-use Rattle.pt_model.specs.Histories.{History, ◌▷◌, place, onto}
-use Rattle.pt_model.specs.Records.{Told}
+use Rattle.pt_model.specs.Histories.{History, ◌▷◌, place, append_entries}
+use Rattle.pt_model.specs.Records.{ReplyView}
 use Rattle.pt_model.specs.Answers.{replies_from}
 use Rattle.pt_model.specs.Forced.{forced}
 use Rattle.pt_model.specs.Room.{need, entry_for, refusal_within}
@@ -33,7 +33,7 @@ abbrev pub played_by :
     → List (Result (List Entry) Refusal)
 played_by h v rest (Some r) = Err r ∷ rest h
 played_by h v rest None =
-    Ok (entered_by h (entry_for h v)) ∷ rest (onto h (entered_by h (entry_for h v)))
+    Ok (entered_by h (entry_for h v)) ∷ rest (append_entries h (entered_by h (entry_for h v)))
 
 -- the entries of each event, or its refusal, in a history of at most this many entries
 abbrev pub play_within : ℕ → History → List Event → List (Result (List Entry) Refusal)
@@ -43,17 +43,18 @@ play_within limit h (v ∷ vs) =
 
 -- the entries of each event, or its refusal, within the limit of every history
 abbrev pub play : History → List Event → List (Result (List Entry) Refusal)
-play h vs = play_within most_entries h vs
+play h vs = play_within max_entries h vs
 
 -- an answer without its place
-abbrev pub said : Told → ℕ × Outcome
-said t = (t.client, t.outcome)
+abbrev pub client_and_outcome : ReplyView → ℕ × Outcome
+client_and_outcome t = (t.client, t.outcome)
 
 -- the answers that each accepted event gives, each with its client
-abbrev pub told_in : History → List (Result (List Entry) Refusal) → List (List (ℕ × Outcome))
-told_in h [] = []
-told_in h (Err r ∷ gs) = told_in h gs
-told_in h (Ok es ∷ gs) = map said (replies_from h es) ∷ told_in (onto h es) gs
+abbrev pub outcomes_in : History → List (Result (List Entry) Refusal) → List (List (ℕ × Outcome))
+outcomes_in h [] = []
+outcomes_in h (Err r ∷ gs) = outcomes_in h gs
+outcomes_in h (Ok es ∷ gs) =
+    map client_and_outcome (replies_from h es) ∷ outcomes_in (append_entries h es) gs
 
 -- all entries of these events, in order
 abbrev pub entries_in : List (Result (List Entry) Refusal) → List Entry
@@ -74,7 +75,7 @@ abbrev pub measured_by :
     → List (Result (ℕ × ℕ) Refusal)
 measured_by h v rest (Some r) = Err r ∷ rest h
 measured_by h v rest None =
-    let g = onto h (entered_by h (entry_for h v)) in Ok (place g, need g) ∷ rest g
+    let g = append_entries h (entered_by h (entry_for h v)) in Ok (place g, need g) ∷ rest g
 
 -- the length and the need after each event, or its refusal, within a limit
 abbrev pub lengths : ℕ → History → List Event → List (Result (ℕ × ℕ) Refusal)

@@ -10,8 +10,8 @@ use Rattle.pt_model.specs.declared.entry.Entry.TheVariants.{Join, Call, Grant}
 use Rattle.pt_model.specs.declared.entry.Event.{Event}
 use Rattle.pt_model.specs.declared.entry.Event.TheVariants as event
 use Rattle.pt_model.specs.Histories.{Begin}
-use Rattle.pt_model.specs.Starts.{nothing}
-use Rattle.pt_examples.specs.Play.{play, told_in}
+use Rattle.pt_model.specs.Starts.{empty_start}
+use Rattle.pt_examples.specs.Play.{play, outcomes_in}
 
 abbrev pub named_c : List ℕ
 named_c = codes "c"
@@ -54,8 +54,8 @@ entered =
     ∷ []
 
 -- the answers that each accepted event gives, each with its client
-abbrev pub told : List (List (ℕ × Outcome))
-told =
+abbrev pub outcomes : List (List (ℕ × Outcome))
+outcomes =
     []
     ∷ []
     ∷ []
@@ -72,4 +72,5 @@ told =
 
 -- the definitions alone give these entries and answers for the events
 abbrev pub IsPlayed10 : Type 0
-IsPlayed10 = (play (Begin nothing) events ≡ entered) × (told_in (Begin nothing) entered ≡ told)
+IsPlayed10 = (play (Begin empty_start) events ≡ entered) × (outcomes_in (Begin empty_start) entered
+    ≡ outcomes)

@@ -10,9 +10,9 @@ use Rattle.pt_model.specs.declared.entry.Entry.TheVariants.{Join, Call, Grant}
 use Rattle.pt_model.specs.declared.entry.Event.{Event}
 use Rattle.pt_model.specs.declared.entry.Event.TheVariants as event
 use Rattle.pt_model.specs.Histories.{Begin}
-use Rattle.pt_model.specs.Starts.{nothing}
+use Rattle.pt_model.specs.Starts.{empty_start}
 use Rattle.pt_model.specs.Legal.{Legal}
-use Rattle.pt_examples.specs.Play.{play, told_in, entries_in, accepted_of}
+use Rattle.pt_examples.specs.Play.{play, outcomes_in, entries_in, accepted_of}
 
 abbrev pub named_m : List ℕ
 named_m = codes "m"
@@ -40,8 +40,8 @@ entered =
     ∷ []
 
 -- the answers that each accepted event gives, each with its client
-abbrev pub told : List (List (ℕ × Outcome))
-told =
+abbrev pub outcomes : List (List (ℕ × Outcome))
+outcomes =
     []
     ∷ []
     ∷ ((0, Done) ∷ [])
@@ -52,7 +52,8 @@ told =
 
 -- the definitions alone give these entries and answers for the events
 abbrev pub IsPlayed2 : Type 0
-IsPlayed2 = (play (Begin nothing) events ≡ entered) × (told_in (Begin nothing) entered ≡ told)
+IsPlayed2 = (play (Begin empty_start) events ≡ entered) × (outcomes_in (Begin empty_start) entered
+    ≡ outcomes)
 
 -- the entries are the history of the accepted events
 abbrev pub IsLegal2 : Type 0

@@ -8,7 +8,7 @@ use Rattle.pt_types.specs.declared.outcome.Refusal.TheVariants.{Dead, Nohello, F
 use Rattle.pt_model.specs.declared.entry.Event.{Event}
 use Rattle.pt_model.specs.declared.entry.Event.TheVariants as event
 use Rattle.pt_model.specs.Histories.{Begin}
-use Rattle.pt_model.specs.Starts.{nothing}
+use Rattle.pt_model.specs.Starts.{empty_start}
 use Rattle.pt_examples.specs.Play.{lengths}
 
 abbrev pub named_m : List ℕ
@@ -38,26 +38,26 @@ third = event.Moment Real (nanos 1 0) ∷ event.Moment Real (nanos 2 0) ∷ even
 -- the lengths, needs and refusals with at most seven entries
 abbrev pub IsFullAtSeven : Type 0
 IsFullAtSeven =
-    lengths 7 (Begin nothing) (first ++ second)
+    lengths 7 (Begin empty_start) (first ++ second)
     ≡ Ok (1, 1) ∷ Ok (2, 1) ∷ Ok (4, 2) ∷ Ok (5, 1) ∷ Err Full ∷ Ok (6, 1) ∷ Err Full
     ∷ Ok (7, 0) ∷ Err Dead ∷ Err Nohello ∷ []
 
 -- the same, if a Yield may still have to be written
 abbrev pub IsFullBeforeYield : Type 0
 IsFullBeforeYield =
-    lengths 7 (Begin nothing) (first ++ third)
+    lengths 7 (Begin empty_start) (first ++ third)
     ≡ Ok (1, 1) ∷ Ok (2, 1) ∷ Ok (4, 2) ∷ Ok (5, 2) ∷ Err Full ∷ Ok (7, 0) ∷ []
 
 -- with at most six entries there is no room for the lock
 abbrev pub IsFullAtSix : Type 0
-IsFullAtSix = lengths 6 (Begin nothing) first ≡ Ok (1, 1) ∷ Ok (2, 1) ∷ Err Full ∷ []
+IsFullAtSix = lengths 6 (Begin empty_start) first ≡ Ok (1, 1) ∷ Ok (2, 1) ∷ Err Full ∷ []
 
 -- with at most one entry nobody can join
 abbrev pub IsFullAtOne : Type 0
 IsFullAtOne =
-    lengths 1 (Begin nothing) (event.Join 10 ∷ event.Moment Real 1 ∷ event.Moment Real 2 ∷ [])
+    lengths 1 (Begin empty_start) (event.Join 10 ∷ event.Moment Real 1 ∷ event.Moment Real 2 ∷ [])
     ≡ Err Full ∷ Ok (1, 0) ∷ Err Full ∷ []
 
 -- with no entries nothing is accepted
 abbrev pub IsFullAtNone : Type 0
-IsFullAtNone = lengths 0 (Begin nothing) (event.Moment Real 1 ∷ []) ≡ Err Full ∷ []
+IsFullAtNone = lengths 0 (Begin empty_start) (event.Moment Real 1 ∷ []) ≡ Err Full ∷ []

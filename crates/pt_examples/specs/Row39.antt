@@ -10,10 +10,10 @@ use Rattle.pt_model.specs.declared.entry.Entry.TheVariants.{Join, Call, Death, G
 use Rattle.pt_model.specs.declared.entry.Event.{Event}
 use Rattle.pt_model.specs.declared.entry.Event.TheVariants as event
 use Rattle.pt_model.specs.Histories.{History, Begin, history}
-use Rattle.pt_model.specs.Starts.{nothing}
+use Rattle.pt_model.specs.Starts.{empty_start}
 use Rattle.pt_model.specs.Forced.{forced}
 use Rattle.pt_examples.specs.Play.{settled_by, entries_in}
-use Rattle.pt_examples.specs.SealedPlay.{Plays, behind_seal}
+use Rattle.pt_examples.specs.SealedPlay.{Plays, after_seal}
 
 abbrev pub named_k : List ℕ
 named_k = codes "k"
@@ -60,8 +60,8 @@ entered =
     ∷ []
 
 -- the answers that each accepted event gives, each with its client
-abbrev pub told : List (List (ℕ × Outcome))
-told =
+abbrev pub outcomes : List (List (ℕ × Outcome))
+outcomes =
     []
     ∷ []
     ∷ ((0, Done) ∷ [])
@@ -94,8 +94,8 @@ later_entered =
     ∷ []
 
 -- the answers that each later event gives, each with its client
-abbrev pub later_told : List (List (ℕ × Outcome))
-later_told =
+abbrev pub later_outcomes : List (List (ℕ × Outcome))
+later_outcomes =
     ((1, Ebusy) ∷ [])
     ∷ ((1, Ebusy) ∷ [])
     ∷ ((1, Ebusy) ∷ [])
@@ -106,9 +106,9 @@ later_told =
 -- parts and without one
 abbrev pub IsPlayed39 : Type 0
 IsPlayed39 =
-    Plays (Begin nothing) events entered told
-    × Plays (behind_seal (history (entries_in entered))) later_events later_entered later_told
-    × Plays (history (entries_in entered)) later_events later_entered later_told
+    Plays (Begin empty_start) events entered outcomes
+    × Plays (after_seal (history (entries_in entered))) later_events later_entered later_outcomes
+    × Plays (history (entries_in entered)) later_events later_entered later_outcomes
 
 -- a client dies while another waits for its mutex, and the Yield isn't written yet
 abbrev pub orphaned : List Entry
@@ -127,5 +127,5 @@ abbrev pub following : History → List Entry
 following h = settled_by 20 h (forced h)
 
 -- after a seal at that point the Yield is written, and the other client learns of the death
-abbrev pub IsTold39 : Type 0
-IsTold39 = following (behind_seal (history orphaned)) ≡ Yield 2 ∷ Grant 5 Eownerdead ∷ []
+abbrev pub IsYielded39 : Type 0
+IsYielded39 = following (after_seal (history orphaned)) ≡ Yield 2 ∷ Grant 5 Eownerdead ∷ []

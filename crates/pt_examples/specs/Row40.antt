@@ -12,11 +12,11 @@ use Rattle.pt_model.specs.declared.entry.Entry.TheVariants.{Join, Call, Moment, 
 use Rattle.pt_model.specs.declared.entry.Event.{Event}
 use Rattle.pt_model.specs.declared.entry.Event.TheVariants as event
 use Rattle.pt_model.specs.Histories.{Begin, history}
-use Rattle.pt_model.specs.Starts.{nothing}
-use Rattle.pt_model.specs.Records.{Told}
+use Rattle.pt_model.specs.Starts.{empty_start}
+use Rattle.pt_model.specs.Records.{ReplyView}
 use Rattle.pt_model.specs.Queries.{answer_of}
 use Rattle.pt_examples.specs.Play.{entries_in, at}
-use Rattle.pt_examples.specs.SealedPlay.{Plays, behind_seal}
+use Rattle.pt_examples.specs.SealedPlay.{Plays, after_seal}
 
 abbrev pub named_c : List ℕ
 named_c = codes "c"
@@ -63,8 +63,8 @@ entered =
     ∷ []
 
 -- the answers that each accepted event gives, each with its client
-abbrev pub told : List (List (ℕ × Outcome))
-told =
+abbrev pub outcomes : List (List (ℕ × Outcome))
+outcomes =
     []
     ∷ []
     ∷ []
@@ -98,8 +98,8 @@ later_entered =
     ∷ []
 
 -- the answers that each later event gives, each with its client
-abbrev pub later_told : List (List (ℕ × Outcome))
-later_told =
+abbrev pub later_outcomes : List (List (ℕ × Outcome))
+later_outcomes =
     ((2, Done) ∷ (1, Etimedout) ∷ [])
     ∷ ((1, Done) ∷ (3, Done) ∷ [])
     ∷ ((3, Done) ∷ (0, Done) ∷ [])
@@ -109,16 +109,16 @@ later_told =
 -- parts and without one
 abbrev pub IsPlayed40 : Type 0
 IsPlayed40 =
-    Plays (Begin nothing) events entered told
-    × Plays (behind_seal (history (entries_in entered))) later_events later_entered later_told
-    × Plays (history (entries_in entered)) later_events later_entered later_told
+    Plays (Begin empty_start) events entered outcomes
+    × Plays (after_seal (history (entries_in entered))) later_events later_entered later_outcomes
+    × Plays (history (entries_in entered)) later_events later_entered later_outcomes
 
 -- an answer that was given before the seal
-abbrev pub answered : Option Told
+abbrev pub answered : Option ReplyView
 answered = Some (record { client = 2; place = 17; outcome = Done })
 
 -- after the seal each latest call has the answer that it had, or still has none
 abbrev pub IsAnswered40 : Type 0
 IsAnswered40 =
-    let h = behind_seal (history (entries_in entered)) in
+    let h = after_seal (history (entries_in entered)) in
     (answer_of h 2 ≡ answered) × (answer_of h 0 ≡ None)

@@ -12,9 +12,9 @@ use Rattle.pt_model.specs.declared.entry.Entry.TheVariants.{Join, Call, Moment, 
 use Rattle.pt_model.specs.declared.entry.Event.{Event}
 use Rattle.pt_model.specs.declared.entry.Event.TheVariants as event
 use Rattle.pt_model.specs.Histories.{Begin, history}
-use Rattle.pt_model.specs.Starts.{nothing}
+use Rattle.pt_model.specs.Starts.{empty_start}
 use Rattle.pt_examples.specs.Play.{entries_in, at}
-use Rattle.pt_examples.specs.SealedPlay.{Plays, behind_seal}
+use Rattle.pt_examples.specs.SealedPlay.{Plays, after_seal}
 
 abbrev pub named_m : List ℕ
 named_m = codes "m"
@@ -46,8 +46,8 @@ entered =
     ∷ []
 
 -- the answers that each accepted event gives, each with its client
-abbrev pub told : List (List (ℕ × Outcome))
-told =
+abbrev pub outcomes : List (List (ℕ × Outcome))
+outcomes =
     []
     ∷ []
     ∷ []
@@ -83,8 +83,8 @@ later_entered =
     ∷ []
 
 -- the answers that each later event gives, each with its client
-abbrev pub later_told : List (List (ℕ × Outcome))
-later_told =
+abbrev pub later_outcomes : List (List (ℕ × Outcome))
+later_outcomes =
     ((1, Etimedout) ∷ [])
     ∷ ((1, Etimedout) ∷ [])
     ∷ []
@@ -98,6 +98,6 @@ later_told =
 -- parts and without one
 abbrev pub IsPlayed41 : Type 0
 IsPlayed41 =
-    Plays (Begin nothing) events entered told
-    × Plays (behind_seal (history (entries_in entered))) later_events later_entered later_told
-    × Plays (history (entries_in entered)) later_events later_entered later_told
+    Plays (Begin empty_start) events entered outcomes
+    × Plays (after_seal (history (entries_in entered))) later_events later_entered later_outcomes
+    × Plays (history (entries_in entered)) later_events later_entered later_outcomes

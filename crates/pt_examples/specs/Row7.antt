@@ -10,8 +10,8 @@ use Rattle.pt_model.specs.declared.entry.Entry.TheVariants.{Join, Call, Death, G
 use Rattle.pt_model.specs.declared.entry.Event.{Event}
 use Rattle.pt_model.specs.declared.entry.Event.TheVariants as event
 use Rattle.pt_model.specs.Histories.{Begin}
-use Rattle.pt_model.specs.Starts.{nothing}
-use Rattle.pt_examples.specs.Play.{play, told_in}
+use Rattle.pt_model.specs.Starts.{empty_start}
+use Rattle.pt_examples.specs.Play.{play, outcomes_in}
 
 abbrev pub named_m : List ℕ
 named_m = codes "m"
@@ -45,8 +45,8 @@ entered =
     ∷ []
 
 -- the answers that each accepted event gives, each with its client
-abbrev pub told : List (List (ℕ × Outcome))
-told =
+abbrev pub outcomes : List (List (ℕ × Outcome))
+outcomes =
     []
     ∷ []
     ∷ []
@@ -60,4 +60,5 @@ told =
 
 -- the definitions alone give these entries and answers for the events
 abbrev pub IsPlayed7 : Type 0
-IsPlayed7 = (play (Begin nothing) events ≡ entered) × (told_in (Begin nothing) entered ≡ told)
+IsPlayed7 = (play (Begin empty_start) events ≡ entered) × (outcomes_in (Begin empty_start) entered
+    ≡ outcomes)

@@ -8,9 +8,9 @@ use Rattle.pt_types.specs.declared.outcome.Refusal.TheVariants.{Dead, Nohello, F
 use Rattle.pt_model.specs.declared.entry.Event.{Event}
 use Rattle.pt_model.specs.declared.entry.Event.TheVariants as event
 use Rattle.pt_model.specs.Histories.{History, Begin}
-use Rattle.pt_model.specs.Starts.{nothing}
+use Rattle.pt_model.specs.Starts.{empty_start}
 use Rattle.pt_model.specs.Seals.{seal}
-use Rattle.pt_examples.specs.SealedPlay.{behind_seal, play_sealing, last_of, lengths_sealing}
+use Rattle.pt_examples.specs.SealedPlay.{after_seal, play_sealing, last_of, lengths_sealing}
 
 abbrev pub named_m : List ℕ
 named_m = codes "m"
@@ -45,15 +45,15 @@ IsSealedAtSeven =
 
 -- the history after these events
 abbrev pub at_last : History
-at_last = last_of (Begin nothing) (play_sealing 7 (Begin nothing) (first ++ second))
+at_last = last_of (Begin empty_start) (play_sealing 7 (Begin empty_start) (first ++ second))
 
 -- a seal goes on with the next place, and so does a seal of that; the outer entries of all
 -- histories are counted
 abbrev pub IsTwiceSealed : Type 0
 IsTwiceSealed =
     ((seal at_last).at ≡ 11)
-    × ((seal (behind_seal at_last)).at ≡ 11)
-    × ((seal (behind_seal at_last)).outer ≡ 8)
+    × ((seal (after_seal at_last)).at ≡ 11)
+    × ((seal (after_seal at_last)).outer ≡ 8)
 
 -- with the same limit, if a Yield may still have to be written, the second moment comes after a
 -- seal

@@ -25,7 +25,7 @@ ghost use Rattle.pt_examples.specs.Row33.{IsPlayed33};
 ghost use Rattle.pt_examples.specs.Row34.{IsPlayed34};
 ghost use Rattle.pt_examples.specs.Row36.{IsPlayed36};
 ghost use Rattle.pt_examples.specs.Row37.{IsPlayed37};
-ghost use Rattle.pt_examples.specs.Row39.{IsPlayed39, IsTold39};
+ghost use Rattle.pt_examples.specs.Row39.{IsPlayed39, IsYielded39};
 ghost use Rattle.pt_examples.specs.Row40.{IsPlayed40, IsAnswered40};
 ghost use Rattle.pt_examples.specs.Row41.{IsPlayed41};
 ghost use Rattle.pt_examples.specs.Row23.{IsFullAtSeven, IsFullBeforeYield, IsFullAtSix};
@@ -37,8 +37,8 @@ ghost use Rattle.pt_examples.specs.SealedAlike.{IsAlike2, IsAlike3, IsAlike5, Is
 ghost use Rattle.pt_examples.specs.SealedAlike.{IsAlike8, IsAlike9, IsAlike10, IsAlike11};
 ghost use Rattle.pt_examples.specs.SealedAlike.{IsAlike12, IsAlike13, IsAlike14, IsAlike15};
 ghost use Rattle.pt_examples.specs.SealedAlike.{IsAlike16, IsAlike18, IsAlike19, IsAlike20};
-ghost use Rattle.pt_examples.specs.TableLimits.{HasMostLocks, HasMostReads, HasMostObjects};
-ghost use Rattle.pt_examples.specs.TableLimits.{HasMostAtBarrier};
+ghost use Rattle.pt_examples.specs.TableLimits.{HasMaxLocks, HasMaxReads, HasMaxObjects};
+ghost use Rattle.pt_examples.specs.TableLimits.{HasMaxAtBarrier};
 
 /// Row 2: the reply comes before the grant.
 pub fn row_2()
@@ -176,7 +176,7 @@ pub fn row_38()
 /// Row 39: what a dead client held stays held, and the death is reported, after a seal.
 pub fn row_39()
     ensures played { IsPlayed39 }
-    ensures told { IsTold39 }
+    ensures followed { IsYielded39 }
 {}
 
 /// Row 40: after a seal it is known when and why a wait was moved.
@@ -192,7 +192,7 @@ pub fn row_41()
 
 /// Rows 2 to 20 with at most 30 entries after each seal, and with as few as they need. The entries
 /// and answers are those of the rows without seals.
-pub fn rows_behind_seals()
+pub fn rows_after_seals()
     ensures row_2 { IsAlike2 }
     ensures row_3 { IsAlike3 }
     ensures row_5 { IsAlike5 }
@@ -214,8 +214,8 @@ pub fn rows_behind_seals()
 
 /// The verdict tables at their limits, from both sides.
 pub fn limits_of_the_tables()
-    ensures locks { HasMostLocks }
-    ensures reads { HasMostReads }
-    ensures objects { HasMostObjects }
-    ensures at_barrier { HasMostAtBarrier }
+    ensures locks { HasMaxLocks }
+    ensures reads { HasMaxReads }
+    ensures objects { HasMaxObjects }
+    ensures at_barrier { HasMaxAtBarrier }
 {}

@@ -5,7 +5,7 @@ use Rattle.std.specs.Prelude.{if◌then◌else◌}
 use Rattle.std.proofs.lemmas.Bool.Decides.{nat_tests}
 use Rattle.pt_types.specs.declared.call.Call.{Call}
 use Rattle.pt_model.specs.declared.entry.Entry.{Entry}
-use Rattle.pt_legal.specs.Cores.{Kept}
+use Rattle.pt_legal.specs.Cores.{CoreState}
 use Rattle.pt_rules.specs.EventRules.{forced_reason}
 use Rattle.pt_explain.specs.Entries.{call_at, call_in, follows_by, place_of_call}
 
@@ -27,7 +27,7 @@ call_found place at es found before since = go (nat_lt place at) refl
     go false e = ap call_in (since (more place at e))
 
 pub followed :
-    (k : Kept) (place : ℕ) (e : Entry) (of : ℕ) (call : Option Call) (once : Bool)
+    (k : CoreState) (place : ℕ) (e : Entry) (of : ℕ) (call : Option Call) (once : Bool)
     → of ≡ place_of_call e → call ≡ call_at k of → once ≡ (place - 1 == of)
     → forced_reason e call once ≡ follows_by k place e
 followed k place e of call once eo ec en = rw (en, ec, eo) refl

@@ -10,9 +10,9 @@ use Rattle.pt_model.specs.declared.entry.Entry.{Entry}
 use Rattle.pt_model.specs.declared.entry.Event.{Event}
 use Rattle.pt_types.specs.declared.outcome.Refusal.{Refusal}
 use Rattle.pt_types.specs.declared.outcome.Refusal.TheVariants.{Enomem}
-use Rattle.pt_legal.specs.Cores.{past}
+use Rattle.pt_legal.specs.Cores.{history_of}
 use Rattle.pt_engine.specs.Scripts.{Script, core_of, event_of_line}
-use Rattle.pt_engine.specs.Says.{Says, refusal_of_event}
+use Rattle.pt_engine.specs.LineAnswers.{AnswersLine, refusal_of_event}
 use Rattle.pt_script.specs.Tellings.{Telling}
 use Rattle.pt_rules.specs.EventRules.{event_reason, refusal_reason}
 use Rattle.pt_explain.specs.Entries.{entry_row, entry_rows, refused_row}
@@ -42,7 +42,7 @@ echo Long = codes "<" ++ 10 ∷ []
 
 -- the place of the next entry after these lines
 abbrev pub next_place : Script → ℕ
-next_place s = place (past (core_of s))
+next_place s = place (history_of (core_of s))
 
 -- the entries of a script from a place on
 abbrev pub entries_since : Script → ℕ → List Entry
@@ -51,7 +51,7 @@ entries_since s at = drop (at - s.start.at) s.entries
 -- why the own entry of a line's event is added, or why the line asks for no event
 abbrev pub own_reason : Script → Result Event Refusal → List ℕ × List ℕ
 own_reason s (Err why) = refusal_reason why
-own_reason s (Ok event) = event_reason (past (core_of s)) event
+own_reason s (Ok event) = event_reason (history_of (core_of s)) event
 
 -- why a line is refused, if it is: ENOMEM if nothing else refuses its event
 abbrev pub refused_reason : Script → Result Event Refusal → List ℕ × List ℕ
@@ -68,14 +68,14 @@ effect_rows refused own next at =
 -- the rows of what a line asked for: the entries from this place on, each with its place and why it
 -- was added, or why the line was refused
 abbrev pub rows_from : Script → Result Event Refusal → Script → ℕ → List ℕ
-rows_from s asked next at = effect_rows (refused_reason s asked) (own_reason s asked) next at
+rows_from s request next at = effect_rows (refused_reason s request) (own_reason s request) next at
 
 -- what explains a line: the line, the entries that it added to the history, each with its place and
 -- why it was added, or why the line was refused, the answers that a script writes for it, what the
 -- objects that its call names are doing after it, and an empty line
 pub record Explains (s : Script) (cut : Cut) (next : Script) (text : List ℕ) : Type 0 where
   pub answers : List ℕ
-  pub says : Says s (script_of cut) next answers
+  pub says : AnswersLine s (script_of cut) next answers
   pub written :
       text
       ≡ echo cut ++ rows_from s (event_of_line s (script_of cut)) next (next_place s)

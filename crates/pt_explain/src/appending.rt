@@ -2,8 +2,8 @@
 
 ghost use Rattle.std.specs.Prelude.{◌≡◌, ◌≤◌, ◌<◌, ◌++◌, ◌∷◌, [], codes, drop, length, take};
 ghost use Rattle.std.specs.Prelude.{true, OnOk, IfErr};
-ghost use Rattle.pt_explain.specs.Explanations.{begins_row as is_row_byte, echo, quoted};
-ghost use Rattle.pt_explain.specs.Explanations.{mark as mark_of};
+ghost use Rattle.pt_explain.specs.Explanations.{begins_row, echo, quoted};
+ghost use Rattle.pt_explain.specs.Explanations.{mark};
 
 use memchr::memchr;
 use pt_engine::ScriptFault;
@@ -13,7 +13,7 @@ use std::alloc::Allocator;
 /// Appends bytes.
 pub fn put<A: Allocator + Copy>(out: &mut Vec<u8, A>, bytes: &[u8]) -> Result<(), ScriptFault>
     ensures ok { OnOk result (out.new.items ≡ out.old.items ++ bytes.now) }
-    ensures why { IfErr result (λ fault. fault ≡ ScriptFault.Memory) }
+    ensures err { IfErr result (λ fault. fault ≡ ScriptFault.Memory) }
 {
     match out.extend_from_slice(bytes) {
         Ok(()) => Ok(()),
@@ -24,7 +24,7 @@ pub fn put<A: Allocator + Copy>(out: &mut Vec<u8, A>, bytes: &[u8]) -> Result<()
 /// Appends a byte.
 pub fn put_byte<A: Allocator + Copy>(out: &mut Vec<u8, A>, byte: u8) -> Result<(), ScriptFault>
     ensures ok { OnOk result (out.new.items ≡ out.old.items ++ byte ∷ []) }
-    ensures why { IfErr result (λ fault. fault ≡ ScriptFault.Memory) }
+    ensures err { IfErr result (λ fault. fault ≡ ScriptFault.Memory) }
 {
     match out.push(byte) {
         Ok(()) => Ok(()),
@@ -34,14 +34,14 @@ pub fn put_byte<A: Allocator + Copy>(out: &mut Vec<u8, A>, byte: u8) -> Result<(
 
 // Returns whether another row of a trace than a line of a script can begin with this byte.
 fn begins_row(byte: u8) -> bool
-    ensures { result ≡ is_row_byte byte }
+    ensures { result ≡ begins_row byte }
 {
     byte == b' ' || byte == b'#' || byte == b'<' || byte == b'>'
 }
 
 // Returns what marks a line of a script in a trace.
 fn mark(text: &[u8]) -> &'static [u8]
-    ensures { result.now ≡ mark_of text.now }
+    ensures { result.now ≡ mark text.now }
 {
     if text.is_empty() || begins_row(text[0]) {
         b"< "
@@ -53,7 +53,7 @@ fn mark(text: &[u8]) -> &'static [u8]
 /// Appends a line of a script as a trace has it.
 pub fn put_line<A: Allocator + Copy>(out: &mut Vec<u8, A>, cut: &Cut) -> Result<(), ScriptFault>
     ensures ok { OnOk result (out.new.items ≡ out.old.items ++ echo cut.now) }
-    ensures why { IfErr result (λ fault. fault ≡ ScriptFault.Memory) }
+    ensures err { IfErr result (λ fault. fault ≡ ScriptFault.Memory) }
 {
     match cut {
         Cut::Line(text) => {
@@ -84,7 +84,7 @@ pub fn put_quoted<A: Allocator + Copy>(
     answers: &[u8],
 ) -> Result<(), ScriptFault>
     ensures ok { OnOk result (out.new.items ≡ out.old.items ++ quoted true answers.now) }
-    ensures why { IfErr result (λ fault. fault ≡ ScriptFault.Memory) }
+    ensures err { IfErr result (λ fault. fault ≡ ScriptFault.Memory) }
 {
     let mut rest = answers;
     while !rest.is_empty() {

@@ -1,7 +1,7 @@
 //! The rows of what came of a line: the entries that it added, or its refusal.
 
 ghost use Rattle.std.specs.Prelude.{◌≡◌, ◌≤◌, ◌++◌, OnOk, IfErr};
-ghost use Rattle.pt_engine.specs.Engines.{known_by};
+ghost use Rattle.pt_engine.specs.Engines.{as_script};
 ghost use Rattle.pt_explain.specs.Explanations.{effect_rows};
 ghost use Rattle.pt_explain.specs.Explanations.{refused_reason as refused_meant};
 
@@ -21,18 +21,18 @@ use std::alloc::Allocator;
 pub fn put_effects<C: ReadableHistory, A: Allocator + Copy>(
     out: &mut Vec<u8, A>,
     engine: &Engine<C, A>,
-    asked: &Result<Event, Refusal>,
+    request: &Result<Event, Refusal>,
     from: u64,
     own: &Reason,
 ) -> Result<(), ScriptFault>
-    requires { (known_by engine.now).start.at ≤ from }
+    requires { (as_script engine.now).start.at ≤ from }
     ensures ok { OnOk result (out.new.items ≡ out.old.items
-        ++ effect_rows (refused_meant (known_by engine.now) asked.now)
-        (own.now.words.now, own.now.source.now) (known_by engine.now) from) }
-    ensures why { IfErr result (λ fault. fault ≡ ScriptFault.Memory) }
+        ++ effect_rows (refused_meant (as_script engine.now) request.now)
+        (own.now.words.now, own.now.source.now) (as_script engine.now) from) }
+    ensures err { IfErr result (λ fault. fault ≡ ScriptFault.Memory) }
 {
     if engine.entries() <= from {
-        return put_refusal(out, &refused_reason(engine, asked));
+        return put_refusal(out, &refused_reason(engine, request));
     }
     put_entries(out, engine.core(), from, own)
 }

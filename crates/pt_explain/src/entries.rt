@@ -1,11 +1,11 @@
 //! The entries that a line added, each with its reason.
 
 ghost use Rattle.std.specs.Prelude.{◌≡◌, ◌≤◌, ◌==◌, ◌-◌, ◌++◌, OnOk, IfErr};
-ghost use Rattle.pt_legal.specs.Cores.{shown};
+ghost use Rattle.pt_legal.specs.Cores.{core_state};
 ghost use Rattle.pt_entries.specs.EntryTexts.{placed_entry};
-ghost use Rattle.pt_explain.specs.Entries.{call_at as call_there, call_in, entries_from, entry_row};
-ghost use Rattle.pt_explain.specs.Entries.{entry_rows, follows_by, place_of_call as place_meant};
-ghost use Rattle.pt_explain.specs.Entries.{reason_at as reason_there, refused_text};
+ghost use Rattle.pt_explain.specs.Entries.{call_at, call_in, entries_from, entry_row};
+ghost use Rattle.pt_explain.specs.Entries.{entry_rows, follows_by, place_of_call};
+ghost use Rattle.pt_explain.specs.Entries.{reason_at, refused_text};
 ghost use Rattle.pt_explain.specs.Rows.{row};
 
 use crate::appending::put;
@@ -30,14 +30,14 @@ fn call_of(entry: Option<Entry>) -> Option<Call>
 
 /// Returns the call at a place, if its entry came since the history was last sealed.
 pub fn call_at<C: LegalHistory>(core: &C, place: u64) -> Option<Call>
-    ensures { result ≡ call_there (shown (C.seen core.now)) place }
+    ensures { result ≡ call_at (core_state (C.seen core.now)) place }
 {
     call_of(core.entry(place))
 }
 
 // Returns the place of the call that a Grant or an Expire is of, and 0 for other entries.
 fn place_of_call(entry: &Entry) -> u64
-    ensures { result ≡ place_meant entry.now }
+    ensures { result ≡ place_of_call entry.now }
 {
     match entry {
         Entry::Grant(place, _) => *place,
@@ -56,9 +56,9 @@ fn is_next(of: u64, place: u64) -> bool
 // Returns why a forced entry must follow, which is at this place.
 fn follow_reason<C: LegalHistory>(core: &C, place: u64, entry: &Entry) -> Reason
     ensures words { result.words.now
-        ≡ (follows_by (shown (C.seen core.now)) place entry.now).0 }
+        ≡ (follows_by (core_state (C.seen core.now)) place entry.now).0 }
     ensures source { result.source.now
-        ≡ (follows_by (shown (C.seen core.now)) place entry.now).1 }
+        ≡ (follows_by (core_state (C.seen core.now)) place entry.now).1 }
 {
     let of = place_of_call(entry);
     forced_reason(entry, &call_at(core, of), is_next(of, place))
@@ -72,10 +72,10 @@ fn reason_at<C: LegalHistory>(
     place: u64,
     entry: &Entry,
 ) -> Reason
-    ensures words { result.words.now ≡ (reason_there (own.now.words.now, own.now.source.now) first
-        (shown (C.seen core.now)) place entry.now).0 }
-    ensures source { result.source.now ≡ (reason_there (own.now.words.now, own.now.source.now) first
-        (shown (C.seen core.now)) place entry.now).1 }
+    ensures words { result.words.now ≡ (reason_at (own.now.words.now, own.now.source.now) first
+        (core_state (C.seen core.now)) place entry.now).0 }
+    ensures source { result.source.now ≡ (reason_at (own.now.words.now, own.now.source.now) first
+        (core_state (C.seen core.now)) place entry.now).1 }
 {
     if place == first {
         *own
@@ -91,7 +91,7 @@ fn put_left<A: Allocator + Copy>(
     entry: &Entry,
 ) -> Result<(), ScriptFault>
     ensures ok { OnOk result (out.new.items ≡ out.old.items ++ placed_entry place entry.now) }
-    ensures why { IfErr result (λ fault. fault ≡ ScriptFault.Memory) }
+    ensures err { IfErr result (λ fault. fault ≡ ScriptFault.Memory) }
 {
     match write_placed_entry(out, place, entry) {
         Ok(()) => Ok(()),
@@ -108,7 +108,7 @@ fn put_entry<A: Allocator + Copy>(
 ) -> Result<(), ScriptFault>
     ensures ok { OnOk result (out.new.items ≡ out.old.items
         ++ row (placed_entry place entry.now) (reason.now.words.now, reason.now.source.now)) }
-    ensures why { IfErr result (λ fault. fault ≡ ScriptFault.Memory) }
+    ensures err { IfErr result (λ fault. fault ≡ ScriptFault.Memory) }
 {
     let start = out.len();
     put_left(out, place, entry)?;
@@ -124,11 +124,11 @@ pub fn put_entries<C: LegalHistory, A: Allocator + Copy>(
     from: u64,
     own: &Reason,
 ) -> Result<(), ScriptFault>
-    requires { (shown (C.seen core.now)).start.at ≤ from }
+    requires { (core_state (C.seen core.now)).start.at ≤ from }
     ensures ok { OnOk result (out.new.items ≡ out.old.items
         ++ entry_rows (entry_row (own.now.words.now, own.now.source.now) from
-        (shown (C.seen core.now))) from (entries_from (C.seen core.now) from)) }
-    ensures why { IfErr result (λ fault. fault ≡ ScriptFault.Memory) }
+        (core_state (C.seen core.now))) from (entries_from (C.seen core.now) from)) }
+    ensures err { IfErr result (λ fault. fault ≡ ScriptFault.Memory) }
 {
     let end = core.len();
     for place in from..end {
@@ -147,7 +147,7 @@ pub fn put_refusal<A: Allocator + Copy>(
 ) -> Result<(), ScriptFault>
     ensures ok { OnOk result (out.new.items ≡ out.old.items
         ++ row refused_text (reason.now.words.now, reason.now.source.now)) }
-    ensures why { IfErr result (λ fault. fault ≡ ScriptFault.Memory) }
+    ensures err { IfErr result (λ fault. fault ≡ ScriptFault.Memory) }
 {
     let text = b"       refused";
     put(out, text)?;

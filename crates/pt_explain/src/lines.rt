@@ -2,9 +2,9 @@
 
 ghost use Rattle.std.specs.Prelude.{◌≡◌, ◌<◌, ◌+◌, ◌^◌, [], length, OnOk, IfOk, IfErr};
 ghost use Rattle.std.specs.Bool.{OnTrue, OnFalse};
-ghost use Rattle.pt_grammar.specs.Lines.{to_come, IsBegun};
-ghost use Rattle.pt_engine.specs.Engines.{Adds, known_by};
-ghost use Rattle.pt_script.specs.Tellings.{AreTold, IsTold};
+ghost use Rattle.pt_grammar.specs.Lines.{lines_to_come, HasNoWholeLine};
+ghost use Rattle.pt_engine.specs.Engines.{Appends, as_script};
+ghost use Rattle.pt_script.specs.Tellings.{TellsBetween, TellsCuts};
 ghost use Rattle.pt_explain.specs.Explanations.{Explains, explains};
 
 use crate::appending::{put_byte, put_line, put_quoted};
@@ -28,18 +28,19 @@ fn explain_line<C: ReadableHistory, A: Allocator + Copy>(
     out: &mut Vec<u8, A>,
 ) -> Result<(), ScriptFault>
     requires { length engine.old.seen < 2 ^ 53 }
-    ensures ok { OnOk result (Adds (Explains (known_by engine.old) cut.now (known_by engine.new))
+    ensures ok { OnOk result (Appends (Explains (as_script engine.old) cut.now
+        (as_script engine.new))
         out.old.items out.new.items) }
-    ensures why { IfErr result (λ fault. fault ≡ ScriptFault.Memory) }
+    ensures err { IfErr result (λ fault. fault ≡ ScriptFault.Memory) }
 {
     let place = engine.entries();
     let line = read_line(cut);
-    let asked = engine.event_of(copy_line(&line));
-    let own = own_reason(engine, &asked);
+    let request = engine.event_of(copy_line(&line));
+    let own = own_reason(engine, &request);
     answers.clear();
     engine.answer(line, answers)?;
     put_line(out, cut)?;
-    put_effects(out, engine, &asked, place, &own)?;
+    put_effects(out, engine, &request, place, &own)?;
     put_quoted(out, answers)?;
     put_objects(out, engine.core(), engine.clients(), place)?;
     put_byte(out, b'\n')
@@ -53,12 +54,12 @@ fn explain_next<C: ReadableHistory, A: Allocator + Copy>(
     out: &mut Vec<u8, A>,
 ) -> Result<bool, ScriptFault>
     requires { length engine.old.seen < 2 ^ 53 }
-    ensures ok { OnOk result (AreTold explains cutter.old (known_by engine.old) out.old.items
-        cutter.new (known_by engine.new) out.new.items) }
+    ensures ok { OnOk result (TellsBetween explains cutter.old (as_script engine.old) out.old.items
+        cutter.new (as_script engine.new) out.new.items) }
     ensures fewer { IfOk result (λ more.
         OnTrue more (length cutter.new.rest < length cutter.old.rest)) }
-    ensures begun { IfOk result (λ more. OnFalse more (IsBegun cutter.new)) }
-    ensures why { IfErr result (λ fault. fault ≡ ScriptFault.Memory) }
+    ensures begun { IfOk result (λ more. OnFalse more (HasNoWholeLine cutter.new)) }
+    ensures err { IfErr result (λ fault. fault ≡ ScriptFault.Memory) }
 {
     match cutter.next_line() {
         Some(cut) => {
@@ -75,11 +76,11 @@ pub fn explain_all<C: ReadableHistory, A: Allocator + Copy>(
     cutter: &mut Cutter<A>,
     out: &mut Vec<u8, A>,
 ) -> Result<(), ScriptFault>
-    requires { length engine.old.seen + length (to_come cutter.old []) < 2 ^ 53 }
-    ensures ok { OnOk result (AreTold explains cutter.old (known_by engine.old) out.old.items
-        cutter.new (known_by engine.new) out.new.items) }
-    ensures begun { OnOk result (IsBegun cutter.new) }
-    ensures why { IfErr result (λ fault. fault ≡ ScriptFault.Memory) }
+    requires { length engine.old.seen + length (lines_to_come cutter.old []) < 2 ^ 53 }
+    ensures ok { OnOk result (TellsBetween explains cutter.old (as_script engine.old) out.old.items
+        cutter.new (as_script engine.new) out.new.items) }
+    ensures begun { OnOk result (HasNoWholeLine cutter.new) }
+    ensures err { IfErr result (λ fault. fault ≡ ScriptFault.Memory) }
 {
     let mut answers = Vec::new(*out.allocator());
     while explain_next(engine, cutter, &mut answers, out)? {}
@@ -92,11 +93,11 @@ pub fn explain_last<C: ReadableHistory, A: Allocator + Copy>(
     cutter: Cutter<A>,
     out: &mut Vec<u8, A>,
 ) -> Result<(), ScriptFault>
-    requires begun { IsBegun cutter }
-    requires few { length engine.old.seen < 2 ^ 53 }
-    ensures ok { OnOk result (IsTold explains (known_by engine.old) (to_come cutter [])
-        out.old.items (known_by engine.new) out.new.items) }
-    ensures why { IfErr result (λ fault. fault ≡ ScriptFault.Memory) }
+    requires begun { HasNoWholeLine cutter }
+    requires within { length engine.old.seen < 2 ^ 53 }
+    ensures ok { OnOk result (TellsCuts explains (as_script engine.old) (lines_to_come cutter [])
+        out.old.items (as_script engine.new) out.new.items) }
+    ensures err { IfErr result (λ fault. fault ≡ ScriptFault.Memory) }
 {
     match cutter.finish() {
         Some(cut) => explain_line(engine, &cut, &mut Vec::new(*out.allocator()), out),

@@ -1,9 +1,9 @@
 ghost use Rattle.std.specs.Prelude.{◌≡◌, ◌≤◌, ◌+◌, ◌^◌, [], false};
-ghost use Rattle.pt_model.specs.Starts.{nothing};
-ghost use Rattle.pt_legal.specs.Cores.{shown};
+ghost use Rattle.pt_model.specs.Starts.{empty_start};
+ghost use Rattle.pt_legal.specs.Cores.{core_state};
 ghost use Rattle.pt_engine.specs.Scripts.{entries_between_seals};
-ghost use Rattle.pt_script.specs.Ends.{reading};
-ghost use Rattle.pt_script.specs.Texts.{writing};
+ghost use Rattle.pt_script.specs.Ends.{reader_view};
+ghost use Rattle.pt_script.specs.Texts.{writer_view};
 ghost use Rattle.pt_script.specs.Programs.{EndsWith};
 ghost use Rattle.pt_explain.specs.Explanations.{explains};
 
@@ -11,7 +11,7 @@ use crate::whole::explain_within;
 use pt_engine::Engine;
 use pt_io::{Sink, Source};
 use pt_readable::ReadableHistory;
-use pt_script::{MOST_READS, report, status_of};
+use pt_script::{MAX_DEVICE_READS, report, status_of};
 use std::alloc::Allocator;
 
 /// The exit status of a script that was read to its end.  [profile]
@@ -30,22 +30,22 @@ pub fn explain<C: ReadableHistory, R: Source, W: Sink, E: Sink, A: Allocator + C
     writer: &mut W,
     errors: &mut E,
 ) -> u8
-    requires empty { shown (C.seen core)
-        ≡ record { start = nothing; entries = []; limit = entries_between_seals } }
+    requires empty { core_state (C.seen core)
+        ≡ record { start = empty_start; entries = []; limit = entries_between_seals } }
     requires fresh { (R.given reader.old ≡ []) × (W.taken writer.old ≡ [])
         × (R.ended reader.old ≡ false) }
     requires working { (R.failures reader.old ≡ 0) × (W.failures writer.old ≡ 0)
         × (E.failures errors.old ≡ 0) }
     ensures ends { EndsWith explains (record {
-      reader = reading R.given R.earlier R.failures R.reads R.ended reader.old reader.new;
-      writer = writing W.taken W.flushed W.failures W.rejections writer.old writer.new;
+      reader = reader_view R.given R.earlier R.failures R.reads R.ended reader.old reader.new;
+      writer = writer_view W.taken W.flushed W.failures W.rejections writer.old writer.new;
       limit = 2 ^ 40;
     }) (E.taken errors.old)
-        (writing E.taken E.flushed E.failures E.rejections errors.old errors.new) result }
+        (writer_view E.taken E.flushed E.failures E.rejections errors.old errors.new) result }
     ensures calls { R.reads reader.new ≤ R.reads reader.old + 2 ^ 40 }
 {
     let mut engine = Engine::new(core, alloc);
-    match explain_within(alloc, MOST_READS, &mut engine, reader, writer) {
+    match explain_within(alloc, MAX_DEVICE_READS, &mut engine, reader, writer) {
         Ok(_) => DONE,
         Err(fault) => {
             report(errors, fault);

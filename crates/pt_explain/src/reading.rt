@@ -3,8 +3,8 @@
 ghost use Rattle.std.specs.Prelude.{◌≡◌, List, ℕ, Ok, IfSome};
 ghost use Rattle.pt_grammar.specs.Script.{body_read, script_of, script_read, short_read};
 
-use pt_lines::{Cut, ScriptBody, ScriptLine, Who, named_at_start, read_client, read_said};
-use pt_types::{Call, MOST_IN_LINE, Name, Refusal};
+use pt_lines::{Cut, ScriptBody, ScriptLine, Who, named_at_start, read_client, read_script_body};
+use pt_types::{Call, MAX_LINE_LENGTH, Name, Refusal};
 
 // Reads a call of one name, if what follows a client and a space begins like one. Most lines are
 // such calls. Read as any other, `lock` and `unlock` took an eighth of an explanation's
@@ -30,7 +30,7 @@ fn read_rest(who: &Who, rest: &[u8]) -> Result<ScriptBody, Refusal>
     {
         return Ok(ScriptBody::Ask(call));
     }
-    read_said(who, rest)
+    read_script_body(who, rest)
 }
 
 // Reads a line that is not too long.
@@ -54,7 +54,7 @@ fn read_short(text: &[u8]) -> ScriptLine
 fn read_text(text: &[u8]) -> ScriptLine
     ensures { result ≡ script_read text.now }
 {
-    if text.len() > MOST_IN_LINE {
+    if text.len() > MAX_LINE_LENGTH {
         return ScriptLine::long();
     }
     read_short(text)

@@ -1,9 +1,9 @@
 //! Why a line's event is added or refused, before it is.
 
 ghost use Rattle.std.specs.Prelude.{◌≡◌};
-ghost use Rattle.pt_engine.specs.Engines.{known_by};
-ghost use Rattle.pt_explain.specs.Explanations.{own_reason as own_meant};
-ghost use Rattle.pt_explain.specs.Explanations.{refused_reason as refused_meant};
+ghost use Rattle.pt_engine.specs.Engines.{as_script};
+ghost use Rattle.pt_explain.specs.Explanations.{own_reason};
+ghost use Rattle.pt_explain.specs.Explanations.{refused_reason};
 
 use pt_engine::Engine;
 use pt_model::Event;
@@ -15,12 +15,12 @@ use std::alloc::Allocator;
 /// Returns why the own entry of what a line asks for is added.
 pub fn own_reason<C: ReadableHistory, A: Allocator + Copy>(
     engine: &Engine<C, A>,
-    asked: &Result<Event, Refusal>,
+    request: &Result<Event, Refusal>,
 ) -> Reason
-    ensures words { result.words.now ≡ (own_meant (known_by engine.now) asked.now).0 }
-    ensures source { result.source.now ≡ (own_meant (known_by engine.now) asked.now).1 }
+    ensures words { result.words.now ≡ (own_reason (as_script engine.now) request.now).0 }
+    ensures source { result.source.now ≡ (own_reason (as_script engine.now) request.now).1 }
 {
-    match asked {
+    match request {
         Ok(event) => event_reason(engine.core(), event),
         Err(why) => refusal_reason(*why),
     }
@@ -29,12 +29,12 @@ pub fn own_reason<C: ReadableHistory, A: Allocator + Copy>(
 /// Returns why a line is refused, if it is.
 pub fn refused_reason<C: ReadableHistory, A: Allocator + Copy>(
     engine: &Engine<C, A>,
-    asked: &Result<Event, Refusal>,
+    request: &Result<Event, Refusal>,
 ) -> Reason
-    ensures words { result.words.now ≡ (refused_meant (known_by engine.now) asked.now).0 }
-    ensures source { result.source.now ≡ (refused_meant (known_by engine.now) asked.now).1 }
+    ensures words { result.words.now ≡ (refused_reason (as_script engine.now) request.now).0 }
+    ensures source { result.source.now ≡ (refused_reason (as_script engine.now) request.now).1 }
 {
-    match asked {
+    match request {
         Ok(event) => refusal_reason(engine.would_refuse(event).unwrap_or(Refusal::Enomem)),
         Err(why) => refusal_reason(*why),
     }

@@ -1,7 +1,7 @@
 //! The rows of an explanation.
 
 ghost use Rattle.std.specs.Prelude.{◌≡◌, ◌++◌, length, OnOk, IfErr};
-ghost use Rattle.pt_explain.specs.Rows.{gap, margin as margin_meant, right, room_before, spaces};
+ghost use Rattle.pt_explain.specs.Rows.{gap, margin, right, room_before, spaces};
 
 use crate::appending::put;
 use pt_engine::ScriptFault;
@@ -11,7 +11,7 @@ use std::alloc::Allocator;
 // Appends this many spaces, but at most 100.
 fn put_spaces<A: Allocator + Copy>(out: &mut Vec<u8, A>, n: usize) -> Result<(), ScriptFault>
     ensures ok { OnOk result (out.new.items ≡ out.old.items ++ spaces n) }
-    ensures why { IfErr result (λ fault. fault ≡ ScriptFault.Memory) }
+    ensures err { IfErr result (λ fault. fault ≡ ScriptFault.Memory) }
 {
     let blank = b"                                                  ";
     if n <= 50 {
@@ -23,7 +23,7 @@ fn put_spaces<A: Allocator + Copy>(out: &mut Vec<u8, A>, n: usize) -> Result<(),
 
 // Returns how many spaces are after what is on the left, which has this width.
 fn margin(width: usize) -> usize
-    ensures { result ≡ margin_meant width }
+    ensures { result ≡ margin width }
 {
     36usize.saturating_sub(width).max(2)
 }
@@ -47,7 +47,7 @@ fn put_gap<A: Allocator + Copy>(
     source: usize,
 ) -> Result<(), ScriptFault>
     ensures ok { OnOk result (out.new.items ≡ out.old.items ++ gap room source) }
-    ensures why { IfErr result (λ fault. fault ≡ ScriptFault.Memory) }
+    ensures err { IfErr result (λ fault. fault ≡ ScriptFault.Memory) }
 {
     if room >= 2 {
         return put_spaces(out, room);
@@ -65,7 +65,7 @@ pub fn put_reason<A: Allocator + Copy>(
 ) -> Result<(), ScriptFault>
     ensures ok { OnOk result (out.new.items ≡ out.old.items
         ++ right width (reason.now.words.now, reason.now.source.now)) }
-    ensures why { IfErr result (λ fault. fault ≡ ScriptFault.Memory) }
+    ensures err { IfErr result (λ fault. fault ≡ ScriptFault.Memory) }
 {
     put_spaces(out, margin(width))?;
     put(out, reason.words)?;

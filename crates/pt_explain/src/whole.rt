@@ -2,13 +2,13 @@
 
 ghost use Rattle.std.specs.Prelude.{◌≡◌, ◌≤◌, ◌<◌, ◌+◌, ◌^◌, ◌++◌, [], length, true, false, OnOk};
 ghost use Rattle.std.specs.Prelude.{OnErr, IfOk, IfErr};
-ghost use Rattle.pt_grammar.specs.Lines.{to_come, IsBegun};
-ghost use Rattle.pt_engine.specs.Scripts.{begun};
-ghost use Rattle.pt_engine.specs.Engines.{known_by};
-ghost use Rattle.pt_script.specs.Tellings.{AreTold};
-ghost use Rattle.pt_script.specs.Texts.{writing};
-ghost use Rattle.pt_script.specs.Stops.{IsStopped, IsEnd};
-ghost use Rattle.pt_script.specs.Ends.{IsScriptText, BeginsScriptText, IsFaultOf, reading};
+ghost use Rattle.pt_grammar.specs.Lines.{lines_to_come, HasNoWholeLine};
+ghost use Rattle.pt_engine.specs.Scripts.{empty_script};
+ghost use Rattle.pt_engine.specs.Engines.{as_script};
+ghost use Rattle.pt_script.specs.Tellings.{TellsBetween};
+ghost use Rattle.pt_script.specs.Texts.{writer_view};
+ghost use Rattle.pt_script.specs.Stops.{StopsAtFault, IsEnd};
+ghost use Rattle.pt_script.specs.Ends.{IsScriptText, BeginsScriptText, IsFaultOf, reader_view};
 ghost use Rattle.pt_explain.specs.Explanations.{explains};
 
 use crate::lines::{explain_all, explain_last};
@@ -33,20 +33,23 @@ fn take_in<C: ReadableHistory, W: Sink, A: Allocator + Copy>(
 ) -> Result<(), ScriptFault>
     requires working { W.failures writer.old ≡ 0 }
     requires out { W.flushed writer.old ≡ W.taken writer.old }
-    requires few { length engine.old.seen
-        + length (to_come (record cutter.old { rest = cutter.old.rest ++ piece.now }) []) < 2 ^ 53 }
-    ensures ok { OnOk result (AreTold explains
-        (record cutter.old { rest = cutter.old.rest ++ piece.now }) (known_by engine.old)
-        (W.taken writer.old) cutter.new (known_by engine.new)
+    requires within { length engine.old.seen
+        + length (lines_to_come (record cutter.old {
+          rest = cutter.old.rest
+              ++ piece.now;
+        }) []) < 2 ^ 53 }
+    ensures ok { OnOk result (TellsBetween explains
+        (record cutter.old { rest = cutter.old.rest ++ piece.now }) (as_script engine.old)
+        (W.taken writer.old) cutter.new (as_script engine.new)
         (W.taken writer.new)) }
-    ensures begun { OnOk result (IsBegun cutter.new) }
+    ensures begun { OnOk result (HasNoWholeLine cutter.new) }
     ensures wrote { OnOk result
         ((W.failures writer.new ≡ 0) × (W.rejections writer.new ≡ W.rejections writer.old)) }
     ensures out { OnOk result (W.flushed writer.new ≡ W.taken writer.new) }
-    ensures err { IfErr result (λ fault. IsStopped explains fault
+    ensures err { IfErr result (λ fault. StopsAtFault explains fault
         (record cutter.old { rest = cutter.old.rest ++ piece.now })
-        (known_by engine.old) (W.taken writer.old)
-        (writing W.taken W.flushed W.failures W.rejections writer.old writer.new)) }
+        (as_script engine.old) (W.taken writer.old)
+        (writer_view W.taken W.flushed W.failures W.rejections writer.old writer.new)) }
 {
     let Ok(()) = cutter.feed(piece) else {
         return Err(ScriptFault::Memory);
@@ -66,17 +69,17 @@ fn finish<C: ReadableHistory, W: Sink, A: Allocator + Copy>(
 ) -> Result<ScriptEnd, ScriptFault>
     requires working { W.failures writer.old ≡ 0 }
     requires out { W.flushed writer.old ≡ W.taken writer.old }
-    requires begun { IsBegun cutter }
-    requires few { length engine.old.seen + length (to_come cutter []) < 2 ^ 53 }
+    requires begun { HasNoWholeLine cutter }
+    requires within { length engine.old.seen + length (lines_to_come cutter []) < 2 ^ 53 }
     ensures ok { IfOk result (λ end. IsEnd explains
-        cutter (known_by engine.old) (W.taken writer.old) (W.taken writer.new)
+        cutter (as_script engine.old) (W.taken writer.old) (W.taken writer.new)
         end.lines end.entries) }
     ensures wrote { OnOk result
         ((W.failures writer.new ≡ 0) × (W.rejections writer.new ≡ W.rejections writer.old)) }
     ensures out { OnOk result (W.flushed writer.new ≡ W.taken writer.new) }
-    ensures err { IfErr result (λ fault. IsStopped explains fault cutter (known_by engine.old)
+    ensures err { IfErr result (λ fault. StopsAtFault explains fault cutter (as_script engine.old)
         (W.taken writer.old)
-        (writing W.taken W.flushed W.failures W.rejections writer.old writer.new)) }
+        (writer_view W.taken W.flushed W.failures W.rejections writer.old writer.new)) }
 {
     let mut out = Vec::new(alloc);
     explain_last(engine, cutter, &mut out)?;
@@ -99,22 +102,22 @@ pub fn explain_within<C: ReadableHistory, R: Source, W: Sink, A: Allocator + Cop
     reader: &mut R,
     writer: &mut W,
 ) -> Result<ScriptEnd, ScriptFault>
-    requires new { known_by engine.old ≡ begun }
+    requires new { as_script engine.old ≡ empty_script }
     requires fresh { (R.given reader.old ≡ []) × (W.taken writer.old ≡ [])
         × (R.ended reader.old ≡ false) }
     requires working { (R.failures reader.old ≡ 0) × (W.failures writer.old ≡ 0) }
-    requires few { reads ≤ 2 ^ 40 }
+    requires within { reads ≤ 2 ^ 40 }
     ensures ok { IfOk result (λ end. IsScriptText explains
         (R.given reader.new) (W.taken writer.new) end.lines end.entries) }
     ensures ended { OnOk result (R.ended reader.new ≡ true) }
     ensures out { OnOk result (W.flushed writer.new ≡ W.taken writer.new) }
     ensures working { OnOk result ((R.failures reader.new ≡ 0) × (W.failures writer.new ≡ 0)) }
     ensures calls { R.reads reader.new ≤ R.reads reader.old + reads }
-    ensures err { OnErr result
+    ensures prefix { OnErr result
         (BeginsScriptText explains (R.given reader.new) (W.taken writer.new)) }
-    ensures why { IfErr result (λ fault. IsFaultOf explains (record {
-      reader = reading R.given R.earlier R.failures R.reads R.ended reader.old reader.new;
-      writer = writing W.taken W.flushed W.failures W.rejections writer.old writer.new;
+    ensures err { IfErr result (λ fault. IsFaultOf explains (record {
+      reader = reader_view R.given R.earlier R.failures R.reads R.ended reader.old reader.new;
+      writer = writer_view W.taken W.flushed W.failures W.rejections writer.old writer.new;
       limit = reads;
     }) fault) }
 {

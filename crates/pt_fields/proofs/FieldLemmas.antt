@@ -5,7 +5,7 @@ use Rattle.std.proofs.Common.{refl, ap, sym, arith, None, Some, add-one}
 use Rattle.std.proofs.lemmas.Bool.{eq-eqb, eqb-true}
 use Rattle.std.specs.List.{list_all}
 use Rattle.memchr.specs.Find.{IsFirstByte, is_byte}
-use Rattle.pt_fields.specs.Fields.{fields, push_first, spaced, behind_spaces}
+use Rattle.pt_fields.specs.Fields.{fields, push_first, join_with_spaces, after_spaces}
 use Rattle.pt_fields.proofs.TestLemmas.{and_parts}
 
 pub not_space : (x : ℕ) → x ≢ 32 → (x == 32) ≡ false
@@ -94,18 +94,18 @@ fields-last (x ∷ word) h =
     ∙ ap (push_first x) (fields-last word parts.1)
 
 -- words separated by single spaces are the fields
-pub fields-spaced :
+pub fields-join_with_spaces :
     (word : List ℕ) (words : List (List ℕ)) → is_word word ≡ true → AreWords words
-    → fields (spaced word words) ≡ word ∷ words
-fields-spaced word [] h all = fields-last word h
-fields-spaced word (next ∷ words) h all =
-    fields-word word (spaced next words) h
-    ∙ ap (λ ws. word ∷ ws) (fields-spaced next words all.0 all.1)
+    → fields (join_with_spaces word words) ≡ word ∷ words
+fields-join_with_spaces word [] h all = fields-last word h
+fields-join_with_spaces word (next ∷ words) h all =
+    fields-word word (join_with_spaces next words) h
+    ∙ ap (λ ws. word ∷ ws) (fields-join_with_spaces next words all.0 all.1)
 
 -- fields joined with single spaces
 abbrev together : List (List ℕ) → List ℕ
 together [] = []
-together (word ∷ words) = spaced word words
+together (word ∷ words) = join_with_spaces word words
 
 together-push : (b : ℕ) (fs : List (List ℕ)) → together (push_first b fs) ≡ b ∷ together fs
 together-push b [] = refl
@@ -113,17 +113,17 @@ together-push b (field ∷ fs) = refl
 
 behind-push :
     (b : ℕ) (fs : List (List ℕ))
-    → behind_spaces (push_first b fs) ≡ 32 ∷ together (push_first b fs)
+    → after_spaces (push_first b fs) ≡ 32 ∷ together (push_first b fs)
 behind-push b [] = refl
 behind-push b (field ∷ fs) = refl
 
-behind-fields : (text : List ℕ) → behind_spaces (fields text) ≡ 32 ∷ together (fields text)
+behind-fields : (text : List ℕ) → after_spaces (fields text) ≡ 32 ∷ together (fields text)
 behind-fields [] = refl
 behind-fields (b ∷ bytes) = by (b == 32)
   where
     by :
         (t : Bool)
-        → behind_spaces (cond t ([] ∷ fields bytes) (push_first b (fields bytes)))
+        → after_spaces (cond t ([] ∷ fields bytes) (push_first b (fields bytes)))
         ≡ 32 ∷ together (cond t ([] ∷ fields bytes) (push_first b (fields bytes)))
     by true = refl
     by false = behind-push b (fields bytes)
@@ -142,5 +142,5 @@ together-fields (b ∷ bytes) = by (together-fields bytes) (b == 32) refl
 
 pub spaced_fields :
     (text field : List ℕ) (rest : List (List ℕ)) → fields text ≡ field ∷ rest
-    → text ≡ spaced field rest
+    → text ≡ join_with_spaces field rest
 spaced_fields text field rest split = sym (together-fields text) ∙ ap together split

@@ -14,7 +14,7 @@ use Rattle.std.proofs.lemmas.Str.{digit_value_digit}
 use Rattle.std.proofs.lemmas.Int.Digits.{digits_value_more}
 use Rattle.std.proofs.lemmas.Fmt.{digits_decimal, digits_value-decimal, decimal-digits_value}
 use Rattle.std.proofs.lemmas.Fmt.{decimal_nonempty, length-decimal-le, first_decimal, decimal_digit}
-use Rattle.pt_fields.specs.Numbers.{IsNumber, is_digit, is_number, number_of}
+use Rattle.pt_fields.specs.Numbers.{IsNumber, is_digit, is_decimal, read_number}
 use Rattle.pt_fields.proofs.FieldLemmas.{is_no_space, is_word}
 use Rattle.pt_fields.proofs.TestLemmas.{some_inj, and_parts, and_true}
 
@@ -92,8 +92,8 @@ pub length-decimal : (n : ℕ) → IsNumber n → length (decimal n) ≤ 10
 length-decimal n h = length-decimal-le 10 n (omega arith) h (big n h)
 
 -- the decimal of a number spells a number
-is_number-decimal : (n : ℕ) → IsNumber n → is_number (decimal n) ≡ true
-is_number-decimal n h =
+is_decimal-decimal : (n : ℕ) → IsNumber n → is_decimal (decimal n) ≡ true
+is_decimal-decimal n h =
     let some = decimal_nonempty n (big n h) in
     let short = length-decimal n h in
     let low : nat_le 1 (length (decimal n)) ≡ true = grind arith in
@@ -101,9 +101,9 @@ is_number-decimal n h =
     let digits = digits_decimal own n (big n h) in
     and_true _ _ (and_true _ _ (and_true _ _ low high) digits) (no_leading_zero n (big n h))
 
-pub number_of-decimal : (n : ℕ) → IsNumber n → number_of (decimal n) ≡ Some n
-number_of-decimal n h =
-    ap (λ b. cond b (Some (digits_value 10 (decimal n))) None) (is_number-decimal n h)
+pub read_number-decimal : (n : ℕ) → IsNumber n → read_number (decimal n) ≡ Some n
+read_number-decimal n h =
+    ap (λ b. cond b (Some (digits_value 10 (decimal n))) None) (is_decimal-decimal n h)
     ∙ ap Some (digits_value-decimal own n (big n h))
 
 -- what holds of a field that spells a number
@@ -113,7 +113,7 @@ record IsNumberField (field : List ℕ) : Type 0 where
   digits : list_all is_digit field ≡ true
   zero_alone : get_or field 0 0 ≡ 48 → length field ≡ 1
 
-number_parts : (field : List ℕ) → is_number field ≡ true → IsNumberField field
+number_parts : (field : List ℕ) → is_decimal field ≡ true → IsNumberField field
 number_parts field e =
     let one = length field == 1 in
     let least = nat_le 1 (length field) in
@@ -132,9 +132,9 @@ number_parts field e =
       zero_alone = λ z. eqb-true (length field) 1 (or_parts one (get_or field 0 0) outer.1 z);
     }
 
-not_number : (field : List ℕ) → (IsNumberField field → ⊥) → None ≡ number_of field
+not_number : (field : List ℕ) → (IsNumberField field → ⊥) → None ≡ read_number field
 not_number field never =
-    by (is_number field) (digits_value 10 field) (λ e. never (number_parts field e))
+    by (is_decimal field) (digits_value 10 field) (λ e. never (number_parts field e))
   where
     by : (t : Bool) (n : ℕ) → (t ≡ true → ⊥) → None ≡ cond t (Some n) None
     by true n never = absurd (never refl)
@@ -143,7 +143,7 @@ not_number field never =
 -- neither an empty field nor one of more than ten bytes spells a number
 pub not_number-length :
     (field : List ℕ) (empty : Bool) → empty ≡ (length field == 0)
-    → (empty ≡ true) ⊎ ((empty ≡ false) × (10 < length field)) → None ≡ number_of field
+    → (empty ≡ true) ⊎ ((empty ≡ false) × (10 < length field)) → None ≡ read_number field
 not_number-length field empty is (inl none) =
     let none = eqb-true (length field) 0 (sym is ∙ none) in
     not_number field (λ parts. omega (arith, none, parts.some))
@@ -152,7 +152,7 @@ not_number-length field empty is (inr long) =
 
 -- nor does a field of two or more bytes if the first is a zero
 pub not_number-zero :
-    (field : List ℕ) → 1 < length field → get_or field 0 0 ≡ 48 → None ≡ number_of field
+    (field : List ℕ) → 1 < length field → get_or field 0 0 ≡ 48 → None ≡ read_number field
 not_number-zero field more first =
     not_number field (λ parts. let one = parts.zero_alone first in omega (arith, one, more))
 
@@ -167,22 +167,22 @@ digit_at (d ∷ ds) (suc i) lt h =
 -- nor does a field with a byte that is not a digit
 pub not_number-digit :
     (field : List ℕ) (i : ℕ) → i < length field → false ≡ is_digit (get_or field i 0)
-    → None ≡ number_of field
+    → None ≡ read_number field
 not_number-digit field i lt other =
     not_number field (λ parts. false≢true (other ∙ digit_at field i lt parts.digits))
 
 -- the number of a field is the value of its digits
-pub number_of-digits :
+pub read_number-digits :
     (field : List ℕ) (n i : ℕ) → length field ≤ i → false ≡ (length field == 0)
     → length field ≤ 10
     → (length field ≤ 1) ⊎ (get_or field 0 0 ≢ 48) → list_all is_digit (take i field) ≡ true
-    → n ≡ digits_value 10 (take i field) → Some n ≡ number_of field
-number_of-digits field n i le some short alone digits value =
+    → n ≡ digits_value 10 (take i field) → Some n ≡ read_number field
+read_number-digits field n i le some short alone digits value =
     let all = take_all i field le in
     let pos : 0 < length field = grind arith in
     let low : nat_le 1 (length field) ≡ true = grind arith in
     let high : nat_le (length field) 10 ≡ true = grind arith in
-    let number : is_number field ≡ true =
+    let number : is_decimal field ≡ true =
     and_true _ _
     (and_true _ _ (and_true _ _ low high) (sym (ap (list_all is_digit) all) ∙ digits))
     (test pos alone) in
@@ -196,12 +196,12 @@ number_of-digits field n i le some short alone digits value =
     test pos (inr other) = grind arith
 
 -- a field that spells a number is the decimal of that number
-pub decimal-number_of :
-    (field : List ℕ) (n : ℕ) → number_of field ≡ Some n → (field ≡ decimal n) × IsNumber n
-decimal-number_of field n h = by (is_number field) refl h
+pub decimal-read_number :
+    (field : List ℕ) (n : ℕ) → read_number field ≡ Some n → (field ≡ decimal n) × IsNumber n
+decimal-read_number field n h = by (is_decimal field) refl h
   where
     printed :
-        is_number field ≡ true
+        is_decimal field ≡ true
         → (decimal (digits_value 10 field) ≡ field) × IsNumber (digits_value 10 field)
     printed e =
         let parts = number_parts field e in
@@ -212,7 +212,7 @@ decimal-number_of field n h = by (is_number field) refl h
         )
 
     by :
-        (b : Bool) → is_number field ≡ b → cond b (Some (digits_value 10 field)) None ≡ Some n
+        (b : Bool) → is_decimal field ≡ b → cond b (Some (digits_value 10 field)) None ≡ Some n
         → (field ≡ decimal n) × IsNumber n
     by false e h = cc
     by true e h =

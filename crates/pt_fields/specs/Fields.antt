@@ -3,13 +3,13 @@ use Rattle.std.specs.Prelude.{ℕ, ◌==◌, ◌++◌, List, [], ◌∷◌, Opti
 use Rattle.std.specs.Borrow.{Bor}
 
 -- words, each preceded by a space
-abbrev pub behind_spaces : List (List ℕ) → List ℕ
-behind_spaces [] = []
-behind_spaces (word ∷ words) = 32 ∷ word ++ behind_spaces words
+abbrev pub after_spaces : List (List ℕ) → List ℕ
+after_spaces [] = []
+after_spaces (word ∷ words) = 32 ∷ word ++ after_spaces words
 
 -- a word and more words, separated by exactly one space each, with none at either end
-abbrev pub spaced : List ℕ → List (List ℕ) → List ℕ
-spaced word words = word ++ behind_spaces words
+abbrev pub join_with_spaces : List ℕ → List (List ℕ) → List ℕ
+join_with_spaces word words = word ++ after_spaces words
 
 -- the fields after a byte is put before the first of them
 abbrev pub push_first : ℕ → List (List ℕ) → List (List ℕ)

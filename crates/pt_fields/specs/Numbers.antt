@@ -13,11 +13,11 @@ abbrev pub is_digit : ℕ → Bool
 is_digit b = nat_le 48 b && nat_le b 57
 
 -- whether a field is a number: 1 to 10 digits without a leading zero, or `0`
-abbrev pub is_number : List ℕ → Bool
-is_number field =
+abbrev pub is_decimal : List ℕ → Bool
+is_decimal field =
     nat_le 1 (length field) && nat_le (length field) 10 && list_all is_digit field
     && (length field == 1 || not (slice_index field 0 == 48))
 
 -- the number that a field spells
-abbrev pub number_of : List ℕ → Option ℕ
-number_of field = if is_number field then Some (digits_value 10 field) else None
+abbrev pub read_number : List ℕ → Option ℕ
+read_number field = if is_decimal field then Some (digits_value 10 field) else None

@@ -1,5 +1,5 @@
 ghost use Rattle.std.specs.Prelude.{◌≡◌, IfSome};
-ghost use Rattle.pt_fields.specs.Numbers.{number_of, is_digit, IsNumber};
+ghost use Rattle.pt_fields.specs.Numbers.{read_number, is_digit, IsNumber};
 
 fn is_digit(byte: u8) -> bool
     ensures { result ≡ is_digit byte }
@@ -10,7 +10,7 @@ fn is_digit(byte: u8) -> bool
 /// Returns the number that a field spells: 1 to 10 digits without a leading zero, or `0`.
 #[inline(always)]
 pub fn read_number(field: &[u8]) -> Option<u64>
-    ensures value { result ≡ number_of field.now }
+    ensures value { result ≡ read_number field.now }
     ensures fits { IfSome result IsNumber }
 {
     if field.is_empty() || field.len() > 10 {

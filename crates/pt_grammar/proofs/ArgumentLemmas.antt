@@ -7,30 +7,32 @@ use Rattle.std.specs.List.{list_all}
 use Rattle.std.specs.Option.{option_map, option_and_then}
 use Rattle.std.specs.Str.{bytes_eq}
 use Rattle.std.proofs.lemmas.Slice.Eq.{bytes_eq-Decides}
-use Rattle.pt_types.specs.Limits.{most_priority, second}
+use Rattle.pt_types.specs.Limits.{max_priority, nanoseconds_per_second}
 use Rattle.pt_types.specs.Names.{IsName, is_name_byte}
 use Rattle.pt_types.specs.Times.{Timespec, nanos}
 use Rattle.pt_types.specs.declared.time.Clock.{Clock}
 use Rattle.pt_types.specs.declared.time.Clock.TheVariants.{Real, Mono}
 use Rattle.pt_types.specs.declared.call.MutexKind.{MutexKind}
 use Rattle.pt_types.specs.declared.call.MutexKind.TheVariants.{Normal, Errorcheck, Recursive}
-use Rattle.pt_grammar.specs.Arguments.{name_of, kind_of, robust_of, clock_named, alone, first_then}
-use Rattle.pt_grammar.specs.Arguments.{priority_of, moment_of, deadline_of, two_numbers}
+use Rattle.pt_grammar.specs.Arguments.{read_name, read_kind, read_robust, read_clock, single_field}
+use Rattle.pt_grammar.specs.Arguments.{first_then}
+use Rattle.pt_grammar.specs.Arguments.{read_priority, read_moment, read_deadline, two_numbers}
 use Rattle.pt_grammar.specs.Arguments.{one_deadline}
 use Rattle.pt_grammar.specs.Arguments.{clock_and_deadline}
 use Rattle.pt_grammar.specs.Grammar.{IsKindWord, robust_word, clock_name}
-use Rattle.pt_fields.specs.Numbers.{IsNumber, number_of}
+use Rattle.pt_fields.specs.Numbers.{IsNumber, read_number}
 use Rattle.pt_fields.proofs.FieldLemmas.{is_no_space, is_word, is_short_word}
-use Rattle.pt_fields.proofs.NumberLemmas.{number_of-decimal, decimal-number_of}
+use Rattle.pt_fields.proofs.NumberLemmas.{read_number-decimal, decimal-read_number}
 use Rattle.pt_fields.proofs.TestLemmas.{some_inj, and_parts, and_true, map_some, then_some}
 
 -- exactly one field
-pub alone-some :
+pub single_field-some :
     {X : Type 0} (read : List ℕ → Option X) (args : List (List ℕ)) (x : X)
-    → alone read args ≡ Some x → (field : List ℕ) × (args ≡ field ∷ []) × (read field ≡ Some x)
-alone-some read [] x h = cc
-alone-some read (field ∷ []) x h = (field, refl, h)
-alone-some read (field ∷ other ∷ more) x h = cc
+    → single_field read args ≡ Some x → (field : List ℕ) × (args ≡ field ∷ []) × (read field
+    ≡ Some x)
+single_field-some read [] x h = cc
+single_field-some read (field ∷ []) x h = (field, refl, h)
+single_field-some read (field ∷ other ∷ more) x h = cc
 
 -- a field followed by others
 pub record IsFirstThen
@@ -68,7 +70,7 @@ first_then-again first rest field more x y e f =
     ∙ ap (λ o. option_map (λ b. (x, b)) o) f
 
 -- a name is read back
-pub name_again : (name : List ℕ) → IsName name → name_of name ≡ Some name
+pub name_again : (name : List ℕ) → IsName name → read_name name ≡ Some name
 name_again name h =
     let some = h.some in
     let fits = h.fits in
@@ -90,7 +92,7 @@ is_name field e =
     record { some = grind arith; fits = grind arith; bytes = outer.1 }
 
 pub name_found :
-    (field name : List ℕ) → name_of field ≡ Some name → (field ≡ name) × IsName name
+    (field name : List ℕ) → read_name field ≡ Some name → (field ≡ name) × IsName name
 name_found field name h = by _ refl h
   where
     by :
@@ -177,7 +179,7 @@ default_found field kind h =
     ]
 
 pub kind_found :
-    (field : List ℕ) (kind : MutexKind) → kind_of field ≡ Some kind → IsKindWord kind field
+    (field : List ℕ) (kind : MutexKind) → read_kind field ≡ Some kind → IsKindWord kind field
 kind_found field kind h =
     let test = bytes_eq field (codes "normal") in
     elim (cond_some test Normal kind (at_default field) h) as (λ _. IsKindWord kind field) [
@@ -186,13 +188,13 @@ kind_found field kind h =
     ]
 
 pub kind_again :
-    (kind : MutexKind) (word : List ℕ) → IsKindWord kind word → kind_of word ≡ Some kind
-kind_again Normal word h = elim h as (λ _. kind_of word ≡ Some Normal) [
-  | inl e ↦ ap kind_of e
-  | inr e ↦ ap kind_of e
+    (kind : MutexKind) (word : List ℕ) → IsKindWord kind word → read_kind word ≡ Some kind
+kind_again Normal word h = elim h as (λ _. read_kind word ≡ Some Normal) [
+  | inl e ↦ ap read_kind e
+  | inr e ↦ ap read_kind e
 ]
-kind_again Errorcheck word h = ap kind_of h
-kind_again Recursive word h = ap kind_of h
+kind_again Errorcheck word h = ap read_kind h
+kind_again Recursive word h = ap read_kind h
 
 pub kind_is_word :
     (kind : MutexKind) (word : List ℕ) → IsKindWord kind word → is_short_word word ≡ true
@@ -218,7 +220,7 @@ stalled_found field robust h =
     ]
 
 pub robust_found :
-    (field : List ℕ) (robust : Bool) → robust_of field ≡ Some robust
+    (field : List ℕ) (robust : Bool) → read_robust field ≡ Some robust
     → field ≡ robust_word robust
 robust_found field robust h =
     let test = bytes_eq field (codes "robust") in
@@ -228,7 +230,7 @@ robust_found field robust h =
       | inr more ↦ stalled_found field robust more
     ]
 
-pub robust_again : (robust : Bool) → robust_of (robust_word robust) ≡ Some robust
+pub robust_again : (robust : Bool) → read_robust (robust_word robust) ≡ Some robust
 robust_again true = refl
 robust_again false = refl
 
@@ -250,7 +252,7 @@ mono_found field clock h =
     ]
 
 pub clock_found :
-    (field : List ℕ) (clock : Clock) → clock_named field ≡ Some clock
+    (field : List ℕ) (clock : Clock) → read_clock field ≡ Some clock
     → field ≡ clock_name clock
 clock_found field clock h =
     let test = bytes_eq field (codes "real") in
@@ -259,7 +261,7 @@ clock_found field clock h =
       | inr more ↦ mono_found field clock more
     ]
 
-pub clock_again : (clock : Clock) → clock_named (clock_name clock) ≡ Some clock
+pub clock_again : (clock : Clock) → read_clock (clock_name clock) ≡ Some clock
 clock_again Real = refl
 clock_again Mono = refl
 
@@ -272,43 +274,43 @@ length-clock_name Real = refl
 length-clock_name Mono = refl
 
 -- priorities
-pub priority_found : (n p : ℕ) → priority_of n ≡ Some p → (n ≡ p) × (1 ≤ p) × (p ≤ most_priority)
+pub priority_found : (n p : ℕ) → read_priority n ≡ Some p → (n ≡ p) × (1 ≤ p) × (p ≤ max_priority)
 priority_found n p h = by _ refl h
   where
     by :
-        (b : Bool) → (nat_le 1 n && nat_le n most_priority) ≡ b → cond b (Some n) None ≡ Some p
-        → (n ≡ p) × (1 ≤ p) × (p ≤ most_priority)
+        (b : Bool) → (nat_le 1 n && nat_le n max_priority) ≡ b → cond b (Some n) None ≡ Some p
+        → (n ≡ p) × (1 ≤ p) × (p ≤ max_priority)
     by false e h = cc
     by true e h =
         let same : n ≡ p = some_inj h in
-        let parts = and_parts (nat_le 1 n) (nat_le n most_priority) e in
+        let parts = and_parts (nat_le 1 n) (nat_le n max_priority) e in
         let low : nat_le 1 n ≡ true = parts.0 in
-        let high : nat_le n most_priority ≡ true = parts.1 in
+        let high : nat_le n max_priority ≡ true = parts.1 in
         (same, grind arith, grind arith)
 
-pub priority_again : (p : ℕ) → 1 ≤ p → p ≤ most_priority → priority_of p ≡ Some p
+pub priority_again : (p : ℕ) → 1 ≤ p → p ≤ max_priority → read_priority p ≡ Some p
 priority_again p low high =
     let a : nat_le 1 p ≡ true = grind arith in
-    let b : nat_le p most_priority ≡ true = grind arith in
-    ap (λ t. cond t (Some p) None) (and_true (nat_le 1 p) (nat_le p most_priority) a b)
+    let b : nat_le p max_priority ≡ true = grind arith in
+    ap (λ t. cond t (Some p) None) (and_true (nat_le 1 p) (nat_le p max_priority) a b)
 
 -- moments
 pub moment_found :
-    (time : ℕ × ℕ) (t : ℕ) → moment_of time ≡ Some t
-    → (time.1 < second) × (t ≡ nanos time.0 time.1)
+    (time : ℕ × ℕ) (t : ℕ) → read_moment time ≡ Some t
+    → (time.1 < nanoseconds_per_second) × (t ≡ nanos time.0 time.1)
 moment_found time t h = by _ refl h
   where
     by :
-        (b : Bool) → nat_lt time.1 second ≡ b
+        (b : Bool) → nat_lt time.1 nanoseconds_per_second ≡ b
         → cond b (Some (nanos time.0 time.1)) None ≡ Some t
-        → (time.1 < second) × (t ≡ nanos time.0 time.1)
+        → (time.1 < nanoseconds_per_second) × (t ≡ nanos time.0 time.1)
     by false e h = cc
     by true e h = (grind arith, sym (some_inj h))
 
 pub moment_again :
-    (sec nsec : ℕ) → nsec < second → moment_of (sec, nsec) ≡ Some (nanos sec nsec)
+    (sec nsec : ℕ) → nsec < nanoseconds_per_second → read_moment (sec, nsec) ≡ Some (nanos sec nsec)
 moment_again sec nsec lt =
-    let b : nat_lt nsec second ≡ true = grind arith in
+    let b : nat_lt nsec nanoseconds_per_second ≡ true = grind arith in
     ap (λ t. cond t (Some (nanos sec nsec)) None) b
 
 -- seconds and nanoseconds
@@ -318,18 +320,18 @@ pub record AreNumbers (args : List (List ℕ)) (sec nsec : ℕ) : Type 0 where
   pub nsec_fits : IsNumber nsec
 
 pub one_number_found :
-    (args : List (List ℕ)) (n : ℕ) → alone number_of args ≡ Some n
+    (args : List (List ℕ)) (n : ℕ) → single_field read_number args ≡ Some n
     → (args ≡ decimal n ∷ []) × IsNumber n
 one_number_found args n h =
-    let a = alone-some number_of args n h in
-    let b = decimal-number_of a.0 n a.2 in
+    let a = single_field-some read_number args n h in
+    let b = decimal-read_number a.0 n a.2 in
     (a.1 ∙ ap (λ f. f ∷ []) b.0, b.1)
 
 pub two_numbers_found :
     (args : List (List ℕ)) (p : ℕ × ℕ) → two_numbers args ≡ Some p → AreNumbers args p.0 p.1
 two_numbers_found args p h =
-    let a = first_then-some number_of (alone number_of) args p h in
-    let sec = decimal-number_of a.field p.0 a.first_is in
+    let a = first_then-some read_number (single_field read_number) args p h in
+    let sec = decimal-read_number a.field p.0 a.first_is in
     let nsec = one_number_found a.more p.1 a.rest_is in
     record {
       args_are = a.args_are ∙ ap (λ f. f ∷ a.more) sec.0 ∙ ap (λ fs. decimal p.0 ∷ fs) nsec.0;
@@ -341,21 +343,22 @@ pub two_numbers_again :
     (sec nsec : ℕ) → IsNumber sec → IsNumber nsec
     → two_numbers (decimal sec ∷ decimal nsec ∷ []) ≡ Some (sec, nsec)
 two_numbers_again sec nsec h g =
-    first_then-again number_of (alone number_of) (decimal sec) (decimal nsec ∷ []) sec nsec
-    (number_of-decimal sec h) (number_of-decimal nsec g)
+    first_then-again read_number (single_field read_number) (decimal sec) (decimal nsec
+    ∷ []) sec nsec
+    (read_number-decimal sec h) (read_number-decimal nsec g)
 
 -- deadlines
 pub one_deadline_found :
     (args : List (List ℕ)) (d : Timespec) → one_deadline args ≡ Some d
     → AreNumbers args d.sec d.nsec
 one_deadline_found args d h =
-    let a = map_some deadline_of (two_numbers args) d h in
+    let a = map_some read_deadline (two_numbers args) d h in
     subst (λ (e : Timespec). AreNumbers args e.sec e.nsec) a.2 (two_numbers_found args a.0 a.1)
 
 pub one_deadline_again :
     (d : Timespec) → IsNumber d.sec → IsNumber d.nsec
     → one_deadline (decimal d.sec ∷ decimal d.nsec ∷ []) ≡ Some d
-one_deadline_again d h g = ap (option_map deadline_of) (two_numbers_again d.sec d.nsec h g)
+one_deadline_again d h g = ap (option_map read_deadline) (two_numbers_again d.sec d.nsec h g)
 
 -- a clock and a deadline
 pub record AreDue (args : List (List ℕ)) (due : Clock × Timespec) : Type 0 where
@@ -368,7 +371,7 @@ pub due_found :
     (args : List (List ℕ)) (due : Clock × Timespec) → clock_and_deadline args ≡ Some due
     → AreDue args due
 due_found args due h =
-    let a = first_then-some clock_named one_deadline args due h in
+    let a = first_then-some read_clock one_deadline args due h in
     let clock = clock_found a.field due.0 a.first_is in
     let d = one_deadline_found a.more due.1 a.rest_is in
     record {

@@ -9,7 +9,7 @@ use Rattle.memchr.specs.Find.{IsFirstByte, is_byte}
 use Rattle.pt_grammar.specs.declared.client.Who.{Who}
 use Rattle.pt_grammar.specs.declared.client.Who.TheVariants.{Named, Star, Unknown}
 use Rattle.pt_grammar.specs.ClientNames.{is_client_byte, IsClientName, is_client_name}
-use Rattle.pt_grammar.specs.Clients.{who_named, before_space, behind_space}
+use Rattle.pt_grammar.specs.Clients.{who_named, before_space, after_space}
 use Rattle.pt_grammar.proofs.ArgumentLemmas.{bytes_are}
 use Rattle.pt_fields.proofs.FieldLemmas.{not_space, no_space_is, is_no_space, is_word}
 use Rattle.pt_fields.proofs.TestLemmas.{and_parts, and_true}
@@ -19,8 +19,8 @@ before-other :
 before-other x xs ne = ap (λ b. cond b [] (x ∷ before_space xs)) ne
 
 behind-other :
-    (x : ℕ) (xs : List ℕ) → (x == 32) ≡ false → behind_space (x ∷ xs) ≡ behind_space xs
-behind-other x xs ne = ap (λ b. cond b (Some xs) (behind_space xs)) ne
+    (x : ℕ) (xs : List ℕ) → (x == 32) ≡ false → after_space (x ∷ xs) ≡ after_space xs
+behind-other x xs ne = ap (λ b. cond b (Some xs) (after_space xs)) ne
 
 -- the text before the first space
 before-at :
@@ -36,10 +36,10 @@ before-at (x ∷ xs) (suc i) lt here before =
 
 behind-at :
     (xs : List ℕ) (i : ℕ) → i < length xs → get_or xs i 0 ≡ 32
-    → ((k : ℕ) → k < i → get_or xs k 0 ≢ 32) → behind_space xs ≡ Some (drop (i + 1) xs)
+    → ((k : ℕ) → k < i → get_or xs k 0 ≢ 32) → after_space xs ≡ Some (drop (i + 1) xs)
 behind-at [] i lt here before = absurd (omega arith)
 behind-at (x ∷ xs) zero lt here before =
-    ap (λ b. cond b (Some xs) (behind_space xs)) (eq-eqb x 32 here)
+    ap (λ b. cond b (Some xs) (after_space xs)) (eq-eqb x 32 here)
 behind-at (x ∷ xs) (suc i) lt here before =
     let same =
     ap (λ n. drop n xs) (add-one i) ∙ sym (ap (λ n. drop n (x ∷ xs)) (add-one (suc i))) in
@@ -56,7 +56,7 @@ before-none (x ∷ xs) none =
     ∙ ap (λ ys. x ∷ ys) (before-none xs (λ k small. none (suc k) (omega arith)))
 
 behind-none :
-    (xs : List ℕ) → ((k : ℕ) → k < length xs → get_or xs k 0 ≢ 32) → behind_space xs ≡ None
+    (xs : List ℕ) → ((k : ℕ) → k < length xs → get_or xs k 0 ≢ 32) → after_space xs ≡ None
 behind-none [] none = refl
 behind-none (x ∷ xs) none =
     behind-other x xs (not_space x (none 0 (omega arith)))
@@ -71,7 +71,7 @@ before-found xs i h =
 
 pub behind-found :
     (xs : List ℕ) (i : ℕ) → IsFirstByte (is_byte 32) xs (Some i)
-    → behind_space xs ≡ Some (drop (i + 1) xs)
+    → after_space xs ≡ Some (drop (i + 1) xs)
 behind-found xs i h =
     behind-at xs i h.0.high (eqb-true (get_or xs i 0) 32 h.1)
     (λ k lt e. h.0.before k (omega arith) lt (eq-eqb (get_or xs k 0) 32 e))
@@ -81,7 +81,7 @@ pub before-missing :
 before-missing xs h = before-none xs (λ k lt e. h k (omega arith) lt (eq-eqb (get_or xs k 0) 32 e))
 
 pub behind-missing :
-    (xs : List ℕ) → IsFirstByte (is_byte 32) xs None → behind_space xs ≡ None
+    (xs : List ℕ) → IsFirstByte (is_byte 32) xs None → after_space xs ≡ None
 behind-missing xs h = behind-none xs (λ k lt e. h k (omega arith) lt (eq-eqb (get_or xs k 0) 32 e))
 
 -- a word, a space, and other bytes
@@ -94,7 +94,7 @@ before-word (x ∷ word) rest h =
     ∙ ap (λ ys. x ∷ ys) (before-word word rest parts.1)
 
 pub behind-word :
-    (word rest : List ℕ) → is_word word ≡ true → behind_space (word ++ 32 ∷ rest) ≡ Some rest
+    (word rest : List ℕ) → is_word word ≡ true → after_space (word ++ 32 ∷ rest) ≡ Some rest
 behind-word [] rest h = refl
 behind-word (x ∷ word) rest h =
     let parts = and_parts (is_no_space x) (is_word word) h in
@@ -102,14 +102,14 @@ behind-word (x ∷ word) rest h =
 
 -- a text with a space consists of the two sides of it
 pub both_sides :
-    (text rest : List ℕ) → behind_space text ≡ Some rest
+    (text rest : List ℕ) → after_space text ≡ Some rest
     → text ≡ before_space text ++ 32 ∷ rest
 both_sides [] rest h = cc
 both_sides (x ∷ xs) rest h = by (both_sides xs rest) (x == 32) refl h
   where
     by :
-        (behind_space xs ≡ Some rest → xs ≡ before_space xs ++ 32 ∷ rest)
-        → (b : Bool) → (x == 32) ≡ b → cond b (Some xs) (behind_space xs) ≡ Some rest
+        (after_space xs ≡ Some rest → xs ≡ before_space xs ++ 32 ∷ rest)
+        → (b : Bool) → (x == 32) ≡ b → cond b (Some xs) (after_space xs) ≡ Some rest
         → x ∷ xs ≡ cond b [] (x ∷ before_space xs) ++ 32 ∷ rest
     by more true e h =
         let space : x ≡ 32 = eqb-true x 32 e in

@@ -2,8 +2,8 @@
 pub mod VerbLemmas
 -- ArgumentLemmas: what fields are read as, and what is read back from its fields
 pub mod ArgumentLemmas
--- AskedLemmas: a client's line that begins with the word of a call is that call, or is refused
-pub mod AskedLemmas
+-- CallLineLemmas: a client's line that begins with the word of a call is that call, or is refused
+pub mod CallLineLemmas
 -- WholeLemmas: a single name or number is the whole text, since neither has a space
 pub mod WholeLemmas
 -- SpelledLemmas: the text of a line is the word of a verb and the fields that it is read from

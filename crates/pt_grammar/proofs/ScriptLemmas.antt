@@ -19,19 +19,19 @@ use Rattle.pt_grammar.specs.declared.client.Who.TheVariants.{Named, Star, Unknow
 use Rattle.pt_grammar.specs.declared.script_line.ScriptBody.{ScriptBody}
 use Rattle.pt_grammar.specs.declared.script_line.ScriptBody.TheVariants.{Hello, Ask, Die, Tick}
 use Rattle.pt_grammar.specs.Arguments.{two_numbers}
-use Rattle.pt_grammar.specs.Arguments.{moment_of}
+use Rattle.pt_grammar.specs.Arguments.{read_moment}
 use Rattle.pt_fields.specs.Fields.{fields}
 use Rattle.pt_grammar.specs.ClientNames.{IsClientName}
-use Rattle.pt_grammar.specs.Clients.{who_text, who_named, before_space, behind_space}
+use Rattle.pt_grammar.specs.Clients.{who_text, who_named, before_space, after_space}
 use Rattle.pt_grammar.specs.Grammar.{Spells}
-use Rattle.pt_grammar.specs.Reading.{call_read, line_read, line_of, line_of_fields, IsAsked}
+use Rattle.pt_grammar.specs.Reading.{call_read, line_read, line_of, line_of_fields, IsCallOfVerb}
 use Rattle.pt_grammar.specs.Verbs.{named_word}
 use Rattle.std.proofs.lemmas.List.{append-nil}
 use Rattle.pt_types.specs.Names.{IsName}
 use Rattle.pt_grammar.proofs.CallLemmas.{spells-call_on}
 use Rattle.pt_grammar.specs.Script.{SpellsBody, SpellsScript, long_line, IsReadAs, body_of}
 use Rattle.pt_grammar.specs.Script.{body_from}
-use Rattle.pt_grammar.specs.Script.{body_read, body_behind, short_read}
+use Rattle.pt_grammar.specs.Script.{body_read, body_after, short_read}
 use Rattle.pt_grammar.proofs.ArgumentLemmas.{bytes_are}
 use Rattle.pt_grammar.proofs.ClientLemmas.{before-word, behind-word, both_sides}
 use Rattle.pt_grammar.proofs.ClientLemmas.{client_name_is_word}
@@ -176,14 +176,14 @@ body_again Unknown rest body h = absurd h
 -- what a client asks for is read as the call that its verb and its fields are read as
 pub call_said :
     (rest : List ℕ) (args : List (List ℕ)) (verb : Verb) (o : Option Call)
-    → line_read rest ≡ line_of verb args → IsAsked verb args o
+    → line_read rest ≡ line_of verb args → IsCallOfVerb verb args o
     → IfSome o (λ asked. (client : List ℕ) → body_read (Named client) rest ≡ Ok (Ask asked))
 call_said rest args verb None read asked = tt
 call_said rest args verb (Some said) read asked = λ client.
     called_again client rest (line.Ask said)
     (spells-line_read rest (line.Ask said) (read ∙ by verb asked))
   where
-    by : (v : Verb) → IsAsked v args (Some said) → line_of v args ≡ Some (line.Ask said)
+    by : (v : Verb) → IsCallOfVerb v args (Some said) → line_of v args ≡ Some (line.Ask said)
     by first.Hello h = absurd cc
     by (first.Moment clock) h = absurd cc
     by first.MutexInit h = sym h
@@ -198,7 +198,7 @@ call_said rest args verb (Some said) read asked = λ client.
 -- `moment`, a space and two numbers are read as that moment of the real clock
 pub moment_said :
     (text args : List ℕ) (o : Option ℕ) → text ≡ codes "moment " ++ args
-    → o ≡ option_and_then moment_of (two_numbers (fields args))
+    → o ≡ option_and_then read_moment (two_numbers (fields args))
     → IfSome o (λ t. body_read Star text ≡ Ok (Tick Real t))
 moment_said text args None is two = tt
 moment_said text args (Some t) is two =
@@ -281,11 +281,11 @@ read_again text who body s =
     let word = client_is_word who client in
     let front : before_space text ≡ who_text who =
     ap before_space s.spelled ∙ before-word (who_text who) s.rest word in
-    let back : behind_space text ≡ Some s.rest =
-    ap behind_space s.spelled ∙ behind-word (who_text who) s.rest word in
+    let back : after_space text ≡ Some s.rest =
+    ap after_space s.spelled ∙ behind-word (who_text who) s.rest word in
     let named : who_named (before_space text) ≡ who =
     ap who_named front ∙ client_again who client in
-    let said : body_behind who (Some s.rest) ≡ Ok body = body_again who s.rest body s.says in
+    let said : body_after who (Some s.rest) ≡ Ok body = body_again who s.rest body s.says in
     rw (named, back, said)
 
 -- the name of the client that is read
@@ -298,11 +298,11 @@ text_named name rest Unknown body n h = absurd h
 
 read_found :
     (text : List ℕ) → IfOk (short_read text).body (SpellsScript text (short_read text).who)
-read_found text = by (behind_space text) refl
+read_found text = by (after_space text) refl
   where
     by :
-        (o : Option (List ℕ)) → behind_space text ≡ o
-        → IfOk (body_behind (who_named (before_space text)) o)
+        (o : Option (List ℕ)) → after_space text ≡ o
+        → IfOk (body_after (who_named (before_space text)) o)
         (SpellsScript text (who_named (before_space text)))
     by None e = tt
     by (Some rest) e =
@@ -321,11 +321,11 @@ read_found text = by (behind_space text) refl
 read_why :
     (text : List ℕ) → length text ≤ 128
     → IfErr (short_read text).body (λ why. why ≡ refusal.Syntax)
-read_why text short = by (behind_space text) refl
+read_why text short = by (after_space text) refl
   where
     by :
-        (o : Option (List ℕ)) → behind_space text ≡ o
-        → IfErr (body_behind (who_named (before_space text)) o) (λ why. why ≡ refusal.Syntax)
+        (o : Option (List ℕ)) → after_space text ≡ o
+        → IfErr (body_after (who_named (before_space text)) o) (λ why. why ≡ refusal.Syntax)
     by None e = refl
     by (Some rest) e =
         let sides = both_sides text rest e in

@@ -17,14 +17,15 @@ use Rattle.pt_grammar.specs.declared.verb.Verb.TheVariants.{Timed}
 use Rattle.pt_grammar.specs.declared.verb.Verb.TheVariants.{Clocked}
 use Rattle.pt_grammar.specs.declared.verb.TimedVerb.{TimedVerb}
 use Rattle.pt_grammar.specs.declared.verb.ClockedVerb.{ClockedVerb}
-use Rattle.pt_grammar.specs.Arguments.{name_of, kind_of, robust_of, clock_named, alone, first_then}
-use Rattle.pt_grammar.specs.Arguments.{priority_of, moment_of, name_and_deadline, one_deadline}
+use Rattle.pt_grammar.specs.Arguments.{read_name, read_kind, read_robust, read_clock, single_field}
+use Rattle.pt_grammar.specs.Arguments.{first_then}
+use Rattle.pt_grammar.specs.Arguments.{read_priority, read_moment, name_and_deadline, one_deadline}
 use Rattle.pt_grammar.specs.Arguments.{clock_and_deadline, name_clock_and_deadline}
-use Rattle.pt_fields.specs.Fields.{spaced, behind_spaces}
+use Rattle.pt_fields.specs.Fields.{join_with_spaces, after_spaces}
 use Rattle.pt_grammar.specs.Grammar.{robust_word, clock_name, OnName, OnNameUntil, OnNameByClock}
 use Rattle.pt_grammar.specs.Grammar.{OnNewMutex, OnNewBarrier, OnWait, OnTimedwait, OnClockwait}
 use Rattle.pt_grammar.specs.Grammar.{OnHello, OnMoment}
-use Rattle.pt_fields.specs.Numbers.{IsNumber, number_of}
+use Rattle.pt_fields.specs.Numbers.{IsNumber, read_number}
 use Rattle.pt_grammar.specs.Reading.{line_of}
 use Rattle.pt_grammar.specs.Verbs.{named_word, timed_word, clocked_word, moment_word, word_of}
 use Rattle.pt_grammar.specs.Verbs.{call_until, call_by_clock}
@@ -34,23 +35,23 @@ use Rattle.pt_grammar.proofs.ArgumentLemmas.{clock_again}
 use Rattle.pt_grammar.proofs.ArgumentLemmas.{clock_is_word, length-clock_name, priority_again}
 use Rattle.pt_grammar.proofs.ArgumentLemmas.{moment_again, two_numbers_again, one_deadline_again}
 use Rattle.pt_fields.proofs.FieldLemmas.{is_word, is_short_word, AreWords}
-use Rattle.pt_fields.proofs.NumberLemmas.{number_of-decimal, decimal_is_word, length-decimal}
+use Rattle.pt_fields.proofs.NumberLemmas.{read_number-decimal, decimal_is_word, length-decimal}
 use Rattle.pt_fields.proofs.TestLemmas.{and_parts}
 
 -- the text is a verb's word and fields from which the line is read
 pub record IsSpelled (text : List ℕ) (read : CallLine) : Type 0 where
   pub verb : Verb
   pub args : List (List ℕ)
-  pub text_is : text ≡ spaced (word_of verb) args
+  pub text_is : text ≡ join_with_spaces (word_of verb) args
   pub words : AreWords args
-  pub short : length (behind_spaces args) ≤ 97
+  pub short : length (after_spaces args) ≤ 97
   pub line_is : line_of verb args ≡ Some read
 
 -- one more word
 longer :
     (word : List ℕ) (words : List (List ℕ))
-    → length (behind_spaces (word ∷ words)) ≡ 1 + length word + length (behind_spaces words)
-longer word words = omega (arith, length-append word (behind_spaces words))
+    → length (after_spaces (word ∷ words)) ≡ 1 + length word + length (after_spaces words)
+longer word words = omega (arith, length-append word (after_spaces words))
 
 pub short_word :
     (word : List ℕ) → is_short_word word ≡ true → (length word ≤ 15) × (is_word word ≡ true)
@@ -95,7 +96,7 @@ by_deadline verb text name d h = record {
       );
   line_is =
       ap (option_map (λ (a : List ℕ × Timespec). line.Ask (call_until verb a.0 a.1)))
-      (first_then-again name_of one_deadline name (decimal d.sec ∷ decimal d.nsec ∷ []) name d
+      (first_then-again read_name one_deadline name (decimal d.sec ∷ decimal d.nsec ∷ []) name d
       (name_again name h.named) (one_deadline_again d h.sec h.nsec));
 }
 
@@ -105,7 +106,7 @@ due_again :
     → clock_and_deadline (clock_name clock ∷ decimal d.sec ∷ decimal d.nsec ∷ [])
     ≡ Some (clock, d)
 due_again clock d h g =
-    first_then-again clock_named one_deadline (clock_name clock)
+    first_then-again read_clock one_deadline (clock_name clock)
     (decimal d.sec ∷ decimal d.nsec ∷ []) clock d (clock_again clock) (one_deadline_again d h g)
 
 -- their fields are words, and have at most this length
@@ -117,7 +118,7 @@ due_words clock d h g =
 
 due_short :
     (clock : Clock) (d : Timespec) → IsNumber d.sec → IsNumber d.nsec
-    → length (behind_spaces (clock_name clock ∷ decimal d.sec ∷ decimal d.nsec ∷ [])) ≤ 27
+    → length (after_spaces (clock_name clock ∷ decimal d.sec ∷ decimal d.nsec ∷ [])) ≤ 27
 due_short clock d h g =
     omega (
       arith,
@@ -144,7 +145,7 @@ by_clock verb text name clock d h =
       line_is =
           ap (option_map (λ (a : List ℕ × (Clock × Timespec)).
           line.Ask (call_by_clock verb a.0 a.1.0 a.1.1)))
-          (first_then-again name_of clock_and_deadline name due name (clock, d)
+          (first_then-again read_name clock_and_deadline name due name (clock, d)
           (name_again name h.named) (due_again clock d h.sec h.nsec));
     }
 
@@ -173,9 +174,9 @@ by_new_mutex text name kind robust h =
       line_is =
           ap (option_map (λ (a : List ℕ × (MutexKind × Bool)).
           line.Ask (call.MutexInit a.0 a.1.0 a.1.1)))
-          (first_then-again name_of (first_then kind_of (alone robust_of)) name
+          (first_then-again read_name (first_then read_kind (single_field read_robust)) name
           (h.word ∷ last ∷ []) name (kind, robust) (name_again name h.named)
-          (first_then-again kind_of (alone robust_of) h.word (last ∷ []) kind robust
+          (first_then-again read_kind (single_field read_robust) h.word (last ∷ []) kind robust
           (kind_again kind h.word h.kind_is) (robust_again robust)));
     }
 
@@ -197,8 +198,8 @@ by_new_barrier text name count h = record {
       );
   line_is =
       ap (option_map (λ (a : List ℕ × ℕ). line.Ask (call.BarrierInit a.0 a.1)))
-      (first_then-again name_of (alone number_of) name (decimal count ∷ []) name count
-      (name_again name h.named) (number_of-decimal count h.counted));
+      (first_then-again read_name (single_field read_number) name (decimal count ∷ []) name count
+      (name_again name h.named) (read_number-decimal count h.counted));
 }
 
 pub by_wait :
@@ -219,7 +220,7 @@ by_wait text cond mutex h = record {
       );
   line_is =
       ap (option_map (λ (a : List ℕ × List ℕ). line.Ask (call.Wait a.0 a.1)))
-      (first_then-again name_of (alone name_of) cond (mutex ∷ []) cond mutex
+      (first_then-again read_name (single_field read_name) cond (mutex ∷ []) cond mutex
       (name_again cond h.cond_named) (name_again mutex h.mutex_named));
 }
 
@@ -254,9 +255,9 @@ by_timedwait text cond mutex d h =
       line_is =
           ap (option_map (λ (a : List ℕ × (List ℕ × Timespec)).
           line.Ask (call.Timedwait a.0 a.1.0 a.1.1)))
-          (first_then-again name_of name_and_deadline cond (mutex ∷ times) cond (mutex, d)
+          (first_then-again read_name name_and_deadline cond (mutex ∷ times) cond (mutex, d)
           (name_again cond h.cond_named)
-          (first_then-again name_of one_deadline mutex times mutex d
+          (first_then-again read_name one_deadline mutex times mutex d
           (name_again mutex h.mutex_named) (one_deadline_again d h.sec h.nsec)));
     }
 
@@ -286,9 +287,9 @@ by_clockwait text cond mutex clock d h =
       line_is =
           ap (option_map (λ (a : List ℕ × (List ℕ × (Clock × Timespec))).
           line.Ask (call.Clockwait a.0 a.1.0 a.1.1.0 a.1.1.1)))
-          (first_then-again name_of name_clock_and_deadline cond (mutex ∷ due) cond
+          (first_then-again read_name name_clock_and_deadline cond (mutex ∷ due) cond
           (mutex, (clock, d)) (name_again cond h.cond_named)
-          (first_then-again name_of clock_and_deadline mutex due mutex (clock, d)
+          (first_then-again read_name clock_and_deadline mutex due mutex (clock, d)
           (name_again mutex h.mutex_named) (due_again clock d h.sec h.nsec)));
     }
 
@@ -302,7 +303,8 @@ by_hello text p h =
       words = (decimal_is_word p fits, tt);
       short = omega (arith, longer (decimal p) [], length-decimal p fits);
       line_is =
-          ap (λ o. option_map line.Hello (option_and_then priority_of o)) (number_of-decimal p fits)
+          ap (λ o. option_map line.Hello (option_and_then read_priority o))
+          (read_number-decimal p fits)
           ∙ ap (option_map line.Hello) (priority_again p h.low h.high);
     }
 
@@ -325,7 +327,7 @@ by_moment clock text t h =
             length-decimal h.nsec fits,
           );
       line_is =
-          ap (λ o. option_map (line.Tick clock) (option_and_then moment_of o))
+          ap (λ o. option_map (line.Tick clock) (option_and_then read_moment o))
           (two_numbers_again h.sec h.nsec h.sec_fits fits)
           ∙ ap (option_map (line.Tick clock)) (moment_again h.sec h.nsec h.nsec_fits)
           ∙ ap (λ m. Some (line.Tick clock m)) (sym h.time);

@@ -6,10 +6,10 @@ use Rattle.std.proofs.lemmas.Bool.{cases_lt}
 use Rattle.std.proofs.lemmas.List.{length-take-le, length-drop, take-append-drop}
 use Rattle.std.proofs.lemmas.List.{drop_more, take_all, take-take}
 use Rattle.std.specs.List.{list_all}
-use Rattle.pt_grammar.specs.declared.client.TheConstants.{MAY_STAND}
+use Rattle.pt_grammar.specs.declared.client.TheConstants.{ALLOWED_BYTES}
 use Rattle.pt_grammar.specs.declared.client.Who.TheVariants.{Named}
 use Rattle.pt_grammar.specs.ClientNames.{is_client_byte, IsClientName}
-use Rattle.pt_grammar.specs.Clients.{who_named, before_space, behind_space}
+use Rattle.pt_grammar.specs.Clients.{who_named, before_space, after_space}
 use Rattle.pt_grammar.proofs.ClientLemmas.{before-word, behind-word, client_name_is_word}
 use Rattle.pt_grammar.proofs.ClientLemmas.{named_again}
 use Rattle.pt_fields.proofs.TestLemmas.{and_parts}
@@ -26,29 +26,29 @@ same_are false false h = refl
 -- whether the table is right for each byte below n
 abbrev right_below : ℕ → Bool
 right_below zero = true
-right_below (suc n) = same (get_or MAY_STAND n false) (is_client_byte n) && right_below n
+right_below (suc n) = same (get_or ALLOWED_BYTES n false) (is_client_byte n) && right_below n
 
 right_at :
     (n byte : ℕ) → right_below n ≡ true → byte < n
-    → get_or MAY_STAND byte false ≡ is_client_byte byte
+    → get_or ALLOWED_BYTES byte false ≡ is_client_byte byte
 right_at zero byte h lt = absurd (omega arith)
 right_at (suc n) byte h lt =
     let parts =
-    and_parts (same (get_or MAY_STAND n false) (is_client_byte n)) (right_below n) h in
+    and_parts (same (get_or ALLOWED_BYTES n false) (is_client_byte n)) (right_below n) h in
     by (cases_lt byte n) parts.0 (right_at n byte parts.1)
   where
     by :
-        (byte < n) ⊎ (n ≤ byte) → same (get_or MAY_STAND n false) (is_client_byte n) ≡ true
-        → (byte < n → get_or MAY_STAND byte false ≡ is_client_byte byte)
-        → get_or MAY_STAND byte false ≡ is_client_byte byte
+        (byte < n) ⊎ (n ≤ byte) → same (get_or ALLOWED_BYTES n false) (is_client_byte n) ≡ true
+        → (byte < n → get_or ALLOWED_BYTES byte false ≡ is_client_byte byte)
+        → get_or ALLOWED_BYTES byte false ≡ is_client_byte byte
     by (inl less) here below = below less
     by (inr more) here below =
         let at : n ≡ byte = omega arith in
-        subst (λ m. get_or MAY_STAND m false ≡ is_client_byte m) at
-        (same_are (get_or MAY_STAND n false) (is_client_byte n) here)
+        subst (λ m. get_or ALLOWED_BYTES m false ≡ is_client_byte m) at
+        (same_are (get_or ALLOWED_BYTES n false) (is_client_byte n) here)
 
 pub may_stand_at :
-    (byte : ℕ) → byte < 2 ^ 8 → get_or MAY_STAND byte false ≡ is_client_byte byte
+    (byte : ℕ) → byte < 2 ^ 8 → get_or ALLOWED_BYTES byte false ≡ is_client_byte byte
 may_stand_at byte fits = right_at 256 byte refl fits
 
 -- a text, split after its first bytes
@@ -114,6 +114,6 @@ who_at_start text name rest named is =
 
 pub rest_at_start :
     (text name rest : List ℕ) → IsClientName name → text ≡ name ++ 32 ∷ rest
-    → Some rest ≡ behind_space text
+    → Some rest ≡ after_space text
 rest_at_start text name rest named is =
-    sym (ap behind_space is ∙ behind-word name rest (client_name_is_word name named))
+    sym (ap after_space is ∙ behind-word name rest (client_name_is_word name named))

@@ -6,9 +6,9 @@ use Rattle.std.proofs.lemmas.Bool.{eqb-true}
 use Rattle.std.specs.List.{list_all}
 use Rattle.std.specs.Str.Parse.{digits_value}
 use Rattle.pt_types.specs.Names.{is_name_byte}
-use Rattle.pt_grammar.specs.Arguments.{name_of, alone}
+use Rattle.pt_grammar.specs.Arguments.{read_name, single_field}
 use Rattle.pt_fields.specs.Fields.{fields, push_first}
-use Rattle.pt_fields.specs.Numbers.{number_of, is_digit}
+use Rattle.pt_fields.specs.Numbers.{read_number, is_digit}
 use Rattle.pt_fields.proofs.FieldLemmas.{fields-other, no_space_is, is_no_space, is_word}
 use Rattle.pt_fields.proofs.TestLemmas.{and_parts, and_true}
 
@@ -73,12 +73,12 @@ two_fields (b ∷ bytes) h = by (two_fields bytes) (b == 32) refl
 whole :
     {X : Type 0} (read : List ℕ → Option X)
     → ((text : List ℕ) → is_word text ≡ false → read text ≡ None)
-    → (text : List ℕ) → alone read (fields text) ≡ read text
+    → (text : List ℕ) → single_field read (fields text) ≡ read text
 whole read none text = by (is_word text) refl
   where
-    by : (t : Bool) → is_word text ≡ t → alone read (fields text) ≡ read text
-    by true e = ap (alone read) (one_field text e)
-    by false e = ap (alone read) (two_fields text e).are ∙ sym (none text e)
+    by : (t : Bool) → is_word text ≡ t → single_field read (fields text) ≡ read text
+    by true e = ap (single_field read) (one_field text e)
+    by false e = ap (single_field read) (two_fields text e).are ∙ sym (none text e)
 
 no_space : (test : ℕ → Bool) (b : ℕ) → test 32 ≡ false → test b ≡ true → is_no_space b ≡ true
 no_space test b not_there h = by (b == 32) refl
@@ -99,7 +99,7 @@ all_no_space test (x ∷ xs) not_there h =
     and_true (is_no_space x) (is_word xs) (no_space test x not_there parts.0)
     (all_no_space test xs not_there parts.1)
 
-no_name : (text : List ℕ) → is_word text ≡ false → name_of text ≡ None
+no_name : (text : List ℕ) → is_word text ≡ false → read_name text ≡ None
 no_name text h = by _ refl
   where
     by :
@@ -114,7 +114,7 @@ no_name text h = by _ refl
         cc
     by false e = refl
 
-no_number : (text : List ℕ) → is_word text ≡ false → number_of text ≡ None
+no_number : (text : List ℕ) → is_word text ≡ false → read_number text ≡ None
 no_number text h = by _ refl
   where
     by :
@@ -135,9 +135,9 @@ no_number text h = by _ refl
     by false e = refl
 
 -- a single name is the whole text
-pub whole_name : (text : List ℕ) → alone name_of (fields text) ≡ name_of text
-whole_name text = whole name_of no_name text
+pub whole_name : (text : List ℕ) → single_field read_name (fields text) ≡ read_name text
+whole_name text = whole read_name no_name text
 
 -- a single number is the whole text
-pub whole_number : (text : List ℕ) → alone number_of (fields text) ≡ number_of text
-whole_number text = whole number_of no_number text
+pub whole_number : (text : List ℕ) → single_field read_number (fields text) ≡ read_number text
+whole_number text = whole read_number no_number text

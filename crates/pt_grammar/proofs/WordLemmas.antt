@@ -7,9 +7,9 @@ use Rattle.pt_types.specs.declared.call.Call.{Call}
 use Rattle.pt_types.specs.declared.call.Call.TheVariants as call
 use Rattle.pt_types.specs.Times.{Timespec}
 use Rattle.pt_types.specs.declared.call.MutexKind.{MutexKind}
-use Rattle.pt_fields.specs.Numbers.{number_of}
-use Rattle.pt_grammar.specs.Arguments.{name_of, alone, first_then, kind_of, one_deadline}
-use Rattle.pt_grammar.specs.Arguments.{robust_of}
+use Rattle.pt_fields.specs.Numbers.{read_number}
+use Rattle.pt_grammar.specs.Arguments.{read_name, single_field, first_then, read_kind, one_deadline}
+use Rattle.pt_grammar.specs.Arguments.{read_robust}
 use Rattle.pt_grammar.specs.declared.call_line.CallLine.TheVariants as line
 use Rattle.pt_grammar.specs.declared.verb.TimedVerb.{TimedVerb}
 use Rattle.pt_grammar.specs.declared.verb.Verb.{Verb}
@@ -17,7 +17,7 @@ use Rattle.pt_grammar.specs.declared.verb.Verb.TheVariants as first
 use Rattle.pt_grammar.specs.declared.client.Who.TheVariants.{Named}
 use Rattle.pt_grammar.specs.declared.script_line.ScriptBody.TheVariants.{Ask}
 use Rattle.pt_fields.specs.Fields.{fields}
-use Rattle.pt_grammar.specs.Reading.{line_read, line_of, line_of_fields, IsAsked}
+use Rattle.pt_grammar.specs.Reading.{line_read, line_of, line_of_fields, IsCallOfVerb}
 use Rattle.pt_grammar.specs.Script.{body_read}
 use Rattle.pt_grammar.specs.Verbs.{call_until, timed_word, word_of}
 use Rattle.pt_grammar.proofs.ArgumentLemmas.{first_then-again, name_again}
@@ -43,7 +43,7 @@ read_by_word text args start verb begins is =
 -- what a client asks for with a word, a space and fields
 pub word_said :
     (text args start : List ℕ) (verb : Verb) (o : Option Call)
-    → start ≡ word_of verb ++ 32 ∷ [] → text ≡ start ++ args → IsAsked verb (fields args) o
+    → start ≡ word_of verb ++ 32 ∷ [] → text ≡ start ++ args → IsCallOfVerb verb (fields args) o
     → IfSome o (λ asked. (client : List ℕ) → body_read (Named client) text ≡ Ok (Ask asked))
 word_said text args start verb o begins is asked =
     call_said text (fields args) verb o (read_by_word text args start verb begins is) asked
@@ -51,10 +51,11 @@ word_said text args start verb o begins is asked =
 -- two names with a space between them are read as the first name and the second
 two_names :
     (args cond mutex : List ℕ) → fields args ≡ cond ∷ fields mutex → IsName cond → IsName mutex
-    → Some (cond, mutex) ≡ first_then name_of (alone name_of) (fields args)
+    → Some (cond, mutex) ≡ first_then read_name (single_field read_name) (fields args)
 two_names args cond mutex parts c m =
-    sym (ap (first_then name_of (alone name_of)) parts
-    ∙ first_then-again name_of (alone name_of) cond (fields mutex) cond mutex (name_again cond c)
+    sym (ap (first_then read_name (single_field read_name)) parts
+    ∙ first_then-again read_name (single_field read_name) cond (fields mutex) cond mutex
+    (name_again cond c)
     (whole_name mutex ∙ name_again mutex m))
 
 -- `wait`, a space, and two names with a space between are read as the call of that wait
@@ -63,7 +64,7 @@ pub wait_spelled :
     → fields args ≡ cond ∷ fields mutex → (client : List ℕ) → IsName cond → IsName mutex
     → body_read (Named client) text ≡ Ok (Ask (call.Wait cond mutex))
 wait_spelled text args cond mutex is parts client c m =
-    let asked : IsAsked first.Wait (fields args) (Some (call.Wait cond mutex)) =
+    let asked : IsCallOfVerb first.Wait (fields args) (Some (call.Wait cond mutex)) =
     ap (option_map (λ a. line.Ask (call.Wait a.0 a.1))) (two_names args cond mutex parts c m) in
     word_said text args (codes "wait ") first.Wait (Some (call.Wait cond mutex)) refl is asked
     client
@@ -72,10 +73,10 @@ wait_spelled text args cond mutex is parts client c m =
 name_first :
     {Y : Type 0} (rest : List (List ℕ) → Option Y) (args name : List ℕ) (more : List (List ℕ))
     (y : Y) → fields args ≡ name ∷ more → rest more ≡ Some y → IsName name
-    → Some (name, y) ≡ first_then name_of rest (fields args)
+    → Some (name, y) ≡ first_then read_name rest (fields args)
 name_first rest args name more y parts read n =
-    sym (ap (first_then name_of rest) parts
-    ∙ first_then-again name_of rest name more name y (name_again name n) read)
+    sym (ap (first_then read_name rest) parts
+    ∙ first_then-again read_name rest name more name y (name_again name n) read)
 
 -- the word of a call with a deadline, a space, a name and a deadline are read as that call
 pub timed_spelled :
@@ -84,7 +85,7 @@ pub timed_spelled :
     → one_deadline more ≡ Some due → (client : List ℕ) → IsName name
     → body_read (Named client) text ≡ Ok (Ask (call_until verb name due))
 timed_spelled text args name more verb due is parts read client n =
-    let asked : IsAsked (first.Timed verb) (fields args) (Some (call_until verb name due)) =
+    let asked : IsCallOfVerb (first.Timed verb) (fields args) (Some (call_until verb name due)) =
     ap (option_map (λ a. line.Ask (call_until verb a.0 a.1)))
     (name_first one_deadline args name more due parts read n) in
     word_said text args (timed_word verb ++ 32 ∷ []) (first.Timed verb)
@@ -94,25 +95,27 @@ timed_spelled text args name more verb due is parts read client n =
 pub mutex_init_spelled :
     (text args name : List ℕ) (more : List (List ℕ)) (made : MutexKind × Bool)
     → text ≡ codes "mutex-init " ++ args → fields args ≡ name ∷ more
-    → first_then kind_of (alone robust_of) more ≡ Some made → (client : List ℕ) → IsName name
+    → first_then read_kind (single_field read_robust) more ≡ Some made → (client : List ℕ)
+    → IsName name
     → body_read (Named client) text ≡ Ok (Ask (call.MutexInit name made.0 made.1))
 mutex_init_spelled text args name more made is parts read client n =
     let makes = call.MutexInit name made.0 made.1 in
-    let asked : IsAsked first.MutexInit (fields args) (Some makes) =
+    let asked : IsCallOfVerb first.MutexInit (fields args) (Some makes) =
     ap (option_map (λ a. line.Ask (call.MutexInit a.0 a.1.0 a.1.1)))
-    (name_first (first_then kind_of (alone robust_of)) args name more made parts read n) in
+    (name_first (first_then read_kind
+    (single_field read_robust)) args name more made parts read n) in
     word_said text args (codes "mutex-init ") first.MutexInit (Some makes) refl is asked client
 
 -- `barrier-init`, a space, a name and a count are read as the call that makes that barrier
 pub barrier_init_spelled :
     (text args name : List ℕ) (more : List (List ℕ)) (count : ℕ)
     → text ≡ codes "barrier-init " ++ args → fields args ≡ name ∷ more
-    → alone number_of more ≡ Some count → (client : List ℕ) → IsName name
+    → single_field read_number more ≡ Some count → (client : List ℕ) → IsName name
     → body_read (Named client) text ≡ Ok (Ask (call.BarrierInit name count))
 barrier_init_spelled text args name more count is parts read client n =
     let makes = call.BarrierInit name count in
-    let asked : IsAsked first.BarrierInit (fields args) (Some makes) =
+    let asked : IsCallOfVerb first.BarrierInit (fields args) (Some makes) =
     ap (option_map (λ a. line.Ask (call.BarrierInit a.0 a.1)))
-    (name_first (alone number_of) args name more count parts read n) in
+    (name_first (single_field read_number) args name more count parts read n) in
     word_said text args (codes "barrier-init ") first.BarrierInit (Some makes) refl is asked
     client

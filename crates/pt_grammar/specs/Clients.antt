@@ -25,9 +25,9 @@ before_space [] = []
 before_space (b ∷ bytes) = if b == 32 then [] else b ∷ before_space bytes
 
 -- the bytes after the first space, if there is one
-abbrev pub behind_space : List ℕ → Option (List ℕ)
-behind_space [] = None
-behind_space (b ∷ bytes) = if b == 32 then Some bytes else behind_space bytes
+abbrev pub after_space : List ℕ → Option (List ℕ)
+after_space [] = None
+after_space (b ∷ bytes) = if b == 32 then Some bytes else after_space bytes
 
 -- the client that a line of a script belongs to: it is named by the text before the first space, or
 -- by the whole line; a line that is too long belongs to no client

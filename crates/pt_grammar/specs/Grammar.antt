@@ -1,7 +1,7 @@
 -- Grammar: which text spells which line. Words are separated by exactly one space.
 use Rattle.std.specs.Prelude.{◌≡◌, ℕ, ◌≤◌, ◌<◌, ◌⊎◌, Bool, true, false, List, [], ◌∷◌, decimal}
 use Rattle.std.specs.Prelude.{codes}
-use Rattle.pt_types.specs.Limits.{most_priority, second}
+use Rattle.pt_types.specs.Limits.{max_priority, nanoseconds_per_second}
 use Rattle.pt_types.specs.Names.{IsName}
 use Rattle.pt_types.specs.Times.{Timespec, nanos}
 use Rattle.pt_types.specs.declared.time.Clock.{Clock}
@@ -20,7 +20,7 @@ use Rattle.pt_types.specs.declared.call.Call.TheVariants.{Clockwait, Signal, Bro
 use Rattle.pt_types.specs.declared.call.Call.TheVariants.{Bwait, BarrierDestroy}
 use Rattle.pt_grammar.specs.declared.call_line.CallLine.{CallLine}
 use Rattle.pt_grammar.specs.declared.call_line.CallLine.TheVariants.{Hello, Ask, Tick}
-use Rattle.pt_fields.specs.Fields.{spaced}
+use Rattle.pt_fields.specs.Fields.{join_with_spaces}
 use Rattle.pt_fields.specs.Numbers.{IsNumber}
 
 -- the words for the kind of a mutex: `default` is `normal`  [profile]
@@ -42,7 +42,7 @@ clock_name Mono = codes "mono"
 -- the text is a word and the name of an object  [profile]
 pub record OnName (text word name : List ℕ) : Type 0 where
   pub named : IsName name
-  pub spelled : text ≡ spaced word (name ∷ [])
+  pub spelled : text ≡ join_with_spaces word (name ∷ [])
 
 -- the text is a word, the name of an object, and the seconds and nanoseconds of a deadline
 -- [profile]
@@ -50,7 +50,7 @@ pub record OnNameUntil (text word name : List ℕ) (d : Timespec) : Type 0 where
   pub named : IsName name
   pub sec : IsNumber d.sec
   pub nsec : IsNumber d.nsec
-  pub spelled : text ≡ spaced word (name ∷ decimal d.sec ∷ decimal d.nsec ∷ [])
+  pub spelled : text ≡ join_with_spaces word (name ∷ decimal d.sec ∷ decimal d.nsec ∷ [])
 
 -- the text is a word, the name of an object, the name of a clock, and a deadline  [profile]
 pub record OnNameByClock (text word name : List ℕ) (clock : Clock) (d : Timespec) : Type 0 where
@@ -58,26 +58,26 @@ pub record OnNameByClock (text word name : List ℕ) (clock : Clock) (d : Timesp
   pub sec : IsNumber d.sec
   pub nsec : IsNumber d.nsec
   pub spelled :
-      text ≡ spaced word (name ∷ clock_name clock ∷ decimal d.sec ∷ decimal d.nsec ∷ [])
+      text ≡ join_with_spaces word (name ∷ clock_name clock ∷ decimal d.sec ∷ decimal d.nsec ∷ [])
 
 -- the text is `mutex-init` with a name, a kind, and `robust` or `stalled`  [profile]
 pub record OnNewMutex (text name : List ℕ) (kind : MutexKind) (robust : Bool) : Type 0 where
   pub named : IsName name
   pub word : List ℕ
   pub kind_is : IsKindWord kind word
-  pub spelled : text ≡ spaced (codes "mutex-init") (name ∷ word ∷ robust_word robust ∷ [])
+  pub spelled : text ≡ join_with_spaces (codes "mutex-init") (name ∷ word ∷ robust_word robust ∷ [])
 
 -- the text is `barrier-init` with a name and a count  [profile]
 pub record OnNewBarrier (text name : List ℕ) (count : ℕ) : Type 0 where
   pub named : IsName name
   pub counted : IsNumber count
-  pub spelled : text ≡ spaced (codes "barrier-init") (name ∷ decimal count ∷ [])
+  pub spelled : text ≡ join_with_spaces (codes "barrier-init") (name ∷ decimal count ∷ [])
 
 -- the text is `wait` with the names of a condition and a mutex  [profile]
 pub record OnWait (text cond mutex : List ℕ) : Type 0 where
   pub cond_named : IsName cond
   pub mutex_named : IsName mutex
-  pub spelled : text ≡ spaced (codes "wait") (cond ∷ mutex ∷ [])
+  pub spelled : text ≡ join_with_spaces (codes "wait") (cond ∷ mutex ∷ [])
 
 -- the text is `timedwait` with the names of a condition and a mutex, and a deadline  [profile]
 pub record OnTimedwait (text cond mutex : List ℕ) (d : Timespec) : Type 0 where
@@ -86,7 +86,7 @@ pub record OnTimedwait (text cond mutex : List ℕ) (d : Timespec) : Type 0 wher
   pub sec : IsNumber d.sec
   pub nsec : IsNumber d.nsec
   pub spelled :
-      text ≡ spaced (codes "timedwait") (cond ∷ mutex ∷ decimal d.sec ∷ decimal d.nsec ∷ [])
+      text ≡ join_with_spaces (codes "timedwait") (cond ∷ mutex ∷ decimal d.sec ∷ decimal d.nsec ∷ [])
 
 -- the text is `clockwait` with the names of a condition, a mutex and a clock, and a deadline
 -- [profile]
@@ -97,7 +97,7 @@ pub record OnClockwait (text cond mutex : List ℕ) (clock : Clock) (d : Timespe
   pub nsec : IsNumber d.nsec
   pub spelled :
       text
-      ≡ spaced (codes "clockwait")
+      ≡ join_with_spaces (codes "clockwait")
       (cond ∷ mutex ∷ clock_name clock ∷ decimal d.sec ∷ decimal d.nsec ∷ [])
 
 -- the text spells this call  [XSH, the call's page, for the arguments; profile]
@@ -135,17 +135,17 @@ SpellsCall t (BarrierDestroy name) = OnName t (codes "barrier-destroy") name
 -- the text is `hello` with a priority, from 1 to the highest  [profile]
 pub record OnHello (text : List ℕ) (p : ℕ) : Type 0 where
   pub low : 1 ≤ p
-  pub high : p ≤ most_priority
-  pub spelled : text ≡ spaced (codes "hello") (decimal p ∷ [])
+  pub high : p ≤ max_priority
+  pub spelled : text ≡ join_with_spaces (codes "hello") (decimal p ∷ [])
 
 -- the text is a word with seconds, and nanoseconds below 1,000,000,000  [profile]
 pub record OnMoment (text word : List ℕ) (t : ℕ) : Type 0 where
   pub sec : ℕ
   pub nsec : ℕ
   pub sec_fits : IsNumber sec
-  pub nsec_fits : nsec < second
+  pub nsec_fits : nsec < nanoseconds_per_second
   pub time : t ≡ nanos sec nsec
-  pub spelled : text ≡ spaced word (decimal sec ∷ decimal nsec ∷ [])
+  pub spelled : text ≡ join_with_spaces word (decimal sec ∷ decimal nsec ∷ [])
 
 -- the text spells this line  [profile]
 abbrev pub Spells : List ℕ → CallLine → Type 0

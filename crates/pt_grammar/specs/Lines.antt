@@ -18,20 +18,21 @@ abbrev pub lines : List ℕ → List Cut
 lines bytes = lines_after [] bytes
 
 -- the lines of the bytes after the first newline
-abbrev pub lines_past_newline : List ℕ → List Cut
-lines_past_newline [] = []
-lines_past_newline (b ∷ bytes) = if b == 10 then lines bytes else lines_past_newline bytes
+abbrev pub lines_after_newline : List ℕ → List Cut
+lines_after_newline [] = []
+lines_after_newline (b ∷ bytes) = if b == 10 then lines bytes else lines_after_newline bytes
 
 -- what a cutter holds: the bytes that it has not given, and whether they continue a line that was
 -- given as too long
-pub record Held : Type 0 where
+pub record CutterView : Type 0 where
   pub rest : List ℕ
   pub dropping : Bool
 
 -- the lines that are still to be given, if these bytes follow and then the end
-abbrev pub to_come : Held → List ℕ → List Cut
-to_come held more =
-    if held.dropping then lines_past_newline (held.rest ++ more) else lines (held.rest ++ more)
+abbrev pub lines_to_come : CutterView → List ℕ → List Cut
+lines_to_come cutter more =
+    if cutter.dropping then lines_after_newline (cutter.rest ++ more)
+    else lines (cutter.rest ++ more)
 
 -- the bytes have no newline
 abbrev pub NoNewline : List ℕ → Type 0
@@ -39,26 +40,27 @@ NoNewline bytes = (i : ℕ) → i < length bytes → slice_index bytes i ≢ 10
 
 -- no held line is whole or already too long, and nothing is held of a line that was given as too
 -- long
-pub record IsBegun (held : Held) : Type 0 where
-  pub no_newline : NoNewline held.rest
-  pub short : length held.rest ≤ 128
-  pub dropped : held.dropping ≡ true → held.rest ≡ []
+pub record HasNoWholeLine (cutter : CutterView) : Type 0 where
+  pub no_newline : NoNewline cutter.rest
+  pub short : length cutter.rest ≤ 128
+  pub dropped : cutter.dropping ≡ true → cutter.rest ≡ []
 
 -- what is held after a line that ends at this place, and its newline, are dropped
-abbrev pub past_line : Held → ℕ → Held
-past_line held end = record held { rest = drop (end + 1) held.rest }
+abbrev pub after_line : CutterView → ℕ → CutterView
+after_line cutter end = record cutter { rest = drop (end + 1) cutter.rest }
 
 -- a line of at most 128 bytes is whole, and ends at this place
-pub record IsFront (held : Held) (end : ℕ) : Type 0 where
-  pub within : end < length held.rest
+pub record IsFirstLine (cutter : CutterView) (end : ℕ) : Type 0 where
+  pub within : end < length cutter.rest
   pub short : end ≤ 128
   pub given : (more : List ℕ)
-      → to_come held more ≡ cut_of (take end held.rest) ∷ to_come (past_line held end) more
+      → lines_to_come cutter more ≡ cut_of (take end cutter.rest)
+      ∷ lines_to_come (after_line cutter end) more
 
 -- the bytes of texts, each ended by a newline, and of a rest
-abbrev pub joined : List (List ℕ) → List ℕ → List ℕ
-joined [] rest = rest
-joined (text ∷ texts) rest = text ++ 10 ∷ joined texts rest
+abbrev pub join_lines : List (List ℕ) → List ℕ → List ℕ
+join_lines [] rest = rest
+join_lines (text ∷ texts) rest = text ++ 10 ∷ join_lines texts rest
 
 -- no text has a newline
 abbrev pub AllTexts : List (List ℕ) → Type 0
@@ -74,4 +76,4 @@ last_of (b ∷ rest) = cut_of (b ∷ rest) ∷ []
 abbrev pub LinesOfTexts : Type 0
 LinesOfTexts =
     (texts : List (List ℕ)) (rest : List ℕ) → AllTexts texts → NoNewline rest
-    → lines (joined texts rest) ≡ map cut_of texts ++ last_of rest
+    → lines (join_lines texts rest) ≡ map cut_of texts ++ last_of rest

@@ -15,16 +15,16 @@ use Rattle.pt_grammar.specs.declared.script_line.ScriptBody.{ScriptBody}
 use Rattle.pt_grammar.specs.declared.script_line.ScriptBody.TheVariants.{Hello, Ask, Die, Tick}
 use Rattle.pt_grammar.specs.declared.script_line.ScriptLine.{ScriptLine}
 use Rattle.pt_grammar.specs.ClientNames.{IsClientName}
-use Rattle.pt_grammar.specs.Clients.{who_text, who_named, who_of, before_space, behind_space}
+use Rattle.pt_grammar.specs.Clients.{who_text, who_named, who_of, before_space, after_space}
 use Rattle.pt_grammar.specs.Grammar.{Spells}
-use Rattle.pt_grammar.specs.Lines.{Held, to_come}
+use Rattle.pt_grammar.specs.Lines.{CutterView, lines_to_come}
 use Rattle.pt_grammar.specs.Reading.{call_read}
 
 -- the text after a client spells this: a hello, a call or `die`; under `*` a moment, and nothing
 -- else  [profile]
 abbrev pub SpellsBody : Who → List ℕ → ScriptBody → Type 0
 SpellsBody (Named name) rest (Hello p) = IsClientName name × Spells rest (line.Hello p)
-SpellsBody (Named name) rest (Ask asked) = IsClientName name × Spells rest (line.Ask asked)
+SpellsBody (Named name) rest (Ask request) = IsClientName name × Spells rest (line.Ask request)
 SpellsBody (Named name) rest Die = IsClientName name × (rest ≡ codes "die")
 SpellsBody Star rest (Tick clock t) = Spells rest (line.Tick clock t)
 SpellsBody who rest body = ⊥
@@ -59,7 +59,7 @@ IsReadOf Long read = read ≡ long_line
 -- what a script's line says, from what it would be on a connection
 abbrev pub body_of : Who → CallLine → Result ScriptBody Refusal
 body_of (Named name) (line.Hello p) = Ok (Hello p)
-body_of (Named name) (line.Ask asked) = Ok (Ask asked)
+body_of (Named name) (line.Ask request) = Ok (Ask request)
 body_of Star (line.Tick clock t) = Ok (Tick clock t)
 body_of who read = Err refusal.Syntax
 
@@ -77,20 +77,20 @@ body_read Star rest = body_from Star (call_read rest)
 body_read Unknown rest = Err refusal.Syntax
 
 -- what a client's line says: this call, or nothing that can be read
-abbrev pub asked_or_refused : Option Call → Result ScriptBody Refusal
-asked_or_refused (Some asked) = Ok (Ask asked)
-asked_or_refused None = Err refusal.Syntax
+abbrev pub call_or_syntax : Option Call → Result ScriptBody Refusal
+call_or_syntax (Some request) = Ok (Ask request)
+call_or_syntax None = Err refusal.Syntax
 
 -- what is read after a client, if a space follows it
-abbrev pub body_behind : Who → Option (List ℕ) → Result ScriptBody Refusal
-body_behind who None = Err refusal.Syntax
-body_behind who (Some rest) = body_read who rest
+abbrev pub body_after : Who → Option (List ℕ) → Result ScriptBody Refusal
+body_after who None = Err refusal.Syntax
+body_after who (Some rest) = body_read who rest
 
 -- what a text that is not too long is read as
 abbrev pub short_read : List ℕ → ScriptLine
 short_read text = record {
   who = who_named (before_space text);
-  body = body_behind (who_named (before_space text)) (behind_space text);
+  body = body_after (who_named (before_space text)) (after_space text);
 }
 
 -- what a text is read as
@@ -103,7 +103,7 @@ script_of (Line text) = script_read text.items
 script_of Long = long_line
 
 -- the next line to come is read as this line of a script
-pub record IsNextScriptLine (old : Held) (line : ScriptLine) (new : Held) : Type 0 where
+pub record IsNextScriptLine (old : CutterView) (line : ScriptLine) (new : CutterView) : Type 0 where
   pub cut : Cut
   pub read : line ≡ script_of cut
-  pub given : (more : List ℕ) → to_come old more ≡ cut ∷ to_come new more
+  pub given : (more : List ℕ) → lines_to_come old more ≡ cut ∷ lines_to_come new more

@@ -1,10 +1,11 @@
 ghost use Rattle.std.specs.Prelude.{◌≡◌, IfSome, Some};
 ghost use Rattle.std.specs.Option.{option_and_then, option_copied};
-ghost use Rattle.pt_grammar.specs.Arguments.{name_of, kind_of, robust_of, clock_named, alone};
-ghost use Rattle.pt_grammar.specs.Arguments.{first_then, priority_of, moment_of, two_numbers};
+ghost use Rattle.pt_grammar.specs.Arguments.{read_name, read_kind, read_robust, read_clock};
+ghost use Rattle.pt_grammar.specs.Arguments.{single_field};
+ghost use Rattle.pt_grammar.specs.Arguments.{first_then, read_priority, read_moment, two_numbers};
 ghost use Rattle.pt_grammar.specs.Arguments.{one_deadline, name_and_deadline, clock_and_deadline};
 ghost use Rattle.pt_grammar.specs.Arguments.{name_clock_and_deadline};
-ghost use Rattle.pt_fields.specs.Numbers.{number_of, IsNumber};
+ghost use Rattle.pt_fields.specs.Numbers.{read_number as number_of, IsNumber};
 
 use crate::verbs::is_same;
 use pt_fields::{Fields, read_number};
@@ -13,14 +14,14 @@ use pt_types::{Clock, Deadline, Moment, MutexKind, Name, Priority};
 // Reads a name.
 #[inline(always)]
 fn read_name(field: &[u8]) -> Option<Name>
-    ensures { result ≡ name_of field.now }
+    ensures { result ≡ read_name field.now }
 {
     Name::new(field)
 }
 
 // Reads the kind of a mutex.
 fn read_kind(field: &[u8]) -> Option<MutexKind>
-    ensures { result ≡ kind_of field.now }
+    ensures { result ≡ read_kind field.now }
 {
     if is_same(field, b"normal") || is_same(field, b"default") {
         Some(MutexKind::Normal)
@@ -35,7 +36,7 @@ fn read_kind(field: &[u8]) -> Option<MutexKind>
 
 // Reads whether a mutex is robust.
 fn read_robust(field: &[u8]) -> Option<bool>
-    ensures { result ≡ robust_of field.now }
+    ensures { result ≡ read_robust field.now }
 {
     if is_same(field, b"robust") {
         Some(true)
@@ -48,7 +49,7 @@ fn read_robust(field: &[u8]) -> Option<bool>
 
 // Reads the clock that a field names.
 fn read_clock(field: &[u8]) -> Option<Clock>
-    ensures { result ≡ clock_named field.now }
+    ensures { result ≡ read_clock field.now }
 {
     if is_same(field, b"real") {
         Some(Clock::Real)
@@ -61,7 +62,7 @@ fn read_clock(field: &[u8]) -> Option<Clock>
 
 // Returns the only field that is left.
 fn only_field<'a>(mut args: Fields<'a>) -> Option<&'a [u8]>
-    ensures { option_copied result ≡ alone Some args.entry }
+    ensures { option_copied result ≡ single_field Some args.entry }
 {
     let field = args.next()?;
     if args.next().is_some() {
@@ -74,7 +75,7 @@ fn only_field<'a>(mut args: Fields<'a>) -> Option<&'a [u8]>
 #[inline(always)]
 #[tactic(auto, using(crate::proofs::WholeLemmas::whole_name))]
 pub fn only_name(args: Fields) -> Option<Name>
-    ensures { result ≡ alone name_of args.entry }
+    ensures { result ≡ single_field read_name args.entry }
 {
     read_name(args.rest()?)
 }
@@ -83,7 +84,7 @@ pub fn only_name(args: Fields) -> Option<Name>
 #[tactic(auto, using(crate::proofs::WholeLemmas::whole_number))]
 #[inline(always)]
 pub fn only_number(args: Fields) -> Option<u64>
-    ensures value { result ≡ alone number_of args.entry }
+    ensures value { result ≡ single_field number_of args.entry }
     ensures fits { IfSome result IsNumber }
 {
     read_number(args.rest()?)
@@ -91,7 +92,7 @@ pub fn only_number(args: Fields) -> Option<u64>
 
 /// Reads a priority and nothing more.
 pub fn only_priority(args: Fields) -> Option<Priority>
-    ensures { result ≡ option_and_then priority_of (alone number_of args.entry) }
+    ensures { result ≡ option_and_then read_priority (single_field number_of args.entry) }
 {
     Priority::new(only_number(args)?)
 }
@@ -110,7 +111,7 @@ fn only_time(mut args: Fields) -> Option<(u64, u64)>
 /// Reads a moment and nothing more.
 #[inline(always)]
 pub fn only_moment(args: Fields) -> Option<Moment>
-    ensures { result ≡ option_and_then moment_of (two_numbers args.entry) }
+    ensures { result ≡ option_and_then read_moment (two_numbers args.entry) }
 {
     let (sec, nsec) = only_time(args)?;
     Moment::new(sec, nsec)
@@ -155,7 +156,7 @@ pub fn name_clock_and_deadline(mut args: Fields) -> Option<(Name, (Clock, Deadli
 
 /// Reads two names.
 pub fn two_names(mut args: Fields) -> Option<(Name, Name)>
-    ensures { result ≡ first_then name_of (alone name_of) args.entry }
+    ensures { result ≡ first_then read_name (single_field read_name) args.entry }
 {
     let first = read_name(args.next()?)?;
     let second = only_name(args)?;
@@ -164,7 +165,7 @@ pub fn two_names(mut args: Fields) -> Option<(Name, Name)>
 
 /// Reads two names and a deadline.
 pub fn two_names_and_deadline(mut args: Fields) -> Option<(Name, (Name, Deadline))>
-    ensures { result ≡ first_then name_of name_and_deadline args.entry }
+    ensures { result ≡ first_then read_name name_and_deadline args.entry }
 {
     let first = read_name(args.next()?)?;
     let rest = name_and_deadline(args)?;
@@ -173,7 +174,7 @@ pub fn two_names_and_deadline(mut args: Fields) -> Option<(Name, (Name, Deadline
 
 /// Reads two names, a clock and a deadline.
 pub fn two_names_clock_and_deadline(mut args: Fields) -> Option<(Name, (Name, (Clock, Deadline)))>
-    ensures { result ≡ first_then name_of name_clock_and_deadline args.entry }
+    ensures { result ≡ first_then read_name name_clock_and_deadline args.entry }
 {
     let first = read_name(args.next()?)?;
     let rest = name_clock_and_deadline(args)?;
@@ -182,7 +183,7 @@ pub fn two_names_clock_and_deadline(mut args: Fields) -> Option<(Name, (Name, (C
 
 /// Reads a name and a count.
 pub fn name_and_count(mut args: Fields) -> Option<(Name, u64)>
-    ensures { result ≡ first_then name_of (alone number_of) args.entry }
+    ensures { result ≡ first_then read_name (single_field number_of) args.entry }
 {
     let name = read_name(args.next()?)?;
     let count = only_number(args)?;
@@ -191,7 +192,7 @@ pub fn name_and_count(mut args: Fields) -> Option<(Name, u64)>
 
 /// Reads a kind, and whether the mutex is robust.
 pub fn kind_and_robust(mut args: Fields) -> Option<(MutexKind, bool)>
-    ensures { result ≡ first_then kind_of (alone robust_of) args.entry }
+    ensures { result ≡ first_then read_kind (single_field read_robust) args.entry }
 {
     let kind = read_kind(args.next()?)?;
     let robust = read_robust(only_field(args)?)?;
@@ -200,7 +201,8 @@ pub fn kind_and_robust(mut args: Fields) -> Option<(MutexKind, bool)>
 
 /// Reads a name, a kind, and whether the mutex is robust.
 pub fn name_and_kind(mut args: Fields) -> Option<(Name, (MutexKind, bool))>
-    ensures { result ≡ first_then name_of (first_then kind_of (alone robust_of)) args.entry }
+    ensures { result ≡ first_then read_name (first_then read_kind
+        (single_field read_robust)) args.entry }
 {
     let name = read_name(args.next()?)?;
     let kind = kind_and_robust(args)?;

@@ -4,7 +4,7 @@ ghost use Rattle.std.specs.Option.{option_map};
 ghost use Rattle.pt_grammar.specs.declared.call_line.CallLine.{CallLine};
 ghost use Rattle.pt_grammar.specs.declared.verb.Verb.TheVariants as word;
 ghost use Rattle.pt_grammar.specs.Grammar.{Spells};
-ghost use Rattle.pt_grammar.specs.Reading.{line_of, line_read, call_read, IsAsked};
+ghost use Rattle.pt_grammar.specs.Reading.{line_of, line_read, call_read, IsCallOfVerb};
 
 use crate::arguments::{
     name_and_count, name_and_deadline, name_and_kind, name_clock_and_deadline, only_moment,
@@ -13,7 +13,7 @@ use crate::arguments::{
 use crate::cut::Cut;
 use crate::verb::{ClockedVerb, TimedVerb, Verb};
 use pt_fields::Fields;
-use pt_types::{Call, Clock, MOST_IN_LINE, Moment, Priority, Refusal};
+use pt_types::{Call, Clock, MAX_LINE_LENGTH, Moment, Priority, Refusal};
 
 /// A line of a connection: a hello, a call, or a reading of a clock.  [profile]
 #[derive(PartialEq, Eq, Drop)]
@@ -102,8 +102,8 @@ fn read_clocked(verb: ClockedVerb, args: Fields) -> Option<Call>
 
 /// Returns the call of a verb and the fields after it, if the verb is that of a call.
 #[inline(always)]
-pub(crate) fn read_asked(verb: Verb, args: Fields) -> Option<Call>
-    ensures { IsAsked verb args.entry result }
+pub(crate) fn read_call_word(verb: Verb, args: Fields) -> Option<Call>
+    ensures { IsCallOfVerb verb args.entry result }
 {
     match verb {
         Verb::Named(verb) => Some(verb.call(only_name(args)?)),
@@ -126,7 +126,7 @@ pub(crate) fn read_arguments(verb: Verb, args: Fields) -> Option<CallLine>
     match verb {
         Verb::Hello => read_hello(args),
         Verb::Moment(clock) => read_tick(clock, args),
-        _ => Some(CallLine::Ask(read_asked(verb, args)?)),
+        _ => Some(CallLine::Ask(read_call_word(verb, args)?)),
     }
 }
 
@@ -150,20 +150,20 @@ pub fn read_call(text: &[u8]) -> Result<CallLine, Refusal>
 
     ensures err { IfErr result (λ refusal. refusal
         ≡ (if nat_lt 128 (length text.now) then Refusal.Long else Refusal.Syntax)) }
-    ensures short { IsOk result → length text.now ≤ 128 }
+    ensures within { IsOk result → length text.now ≤ 128 }
 {
-    if text.len() > MOST_IN_LINE {
+    if text.len() > MAX_LINE_LENGTH {
         return Err(Refusal::Long);
     }
     read_text(text).ok_or(Refusal::Syntax)
 }
 
 impl CallLine {
-    ghost use Rattle.pt_grammar.specs.Reading.{call_of, IsCallReadOf};
+    ghost use Rattle.pt_grammar.specs.Reading.{call_of_cut, IsCallReadOf};
 
     /// Reads what a cutter gave. It allocates nothing.
     pub fn of(cut: &Cut) -> Result<CallLine, Refusal>
-        ensures value { result ≡ call_of cut.now }
+        ensures value { result ≡ call_of_cut cut.now }
         ensures read { IsCallReadOf cut.now result }
     {
         match cut {

@@ -10,14 +10,14 @@ use std::marker::Model;
 use std::simd::prelude::*;
 
 // The most bytes in a client's name.
-const MOST: usize = 8;
+const MAX_NAME_BYTES: usize = 8;
 
 /// The name of a client in a script: 1 to 8 ASCII letters or digits.
 ///
 /// Contracts see it as its bytes. The padding of its block has no meaning.
 #[derive(Drop)]
 pub struct ClientName {
-    block: [u8; MOST],
+    block: [u8; MAX_NAME_BYTES],
     len: u8,
 }
 
@@ -33,7 +33,7 @@ impl Model for ClientName {
 }
 
 // For each byte, whether a client's name may contain it.
-const MAY_STAND: [bool; 256] = [
+const ALLOWED_BYTES: [bool; 256] = [
     false, false, false, false, false, false, false, false, false, false, false, false, false,
     false, false, false, false, false, false, false, false, false, false, false, false, false,
     false, false, false, false, false, false, false, false, false, false, false, false, false,
@@ -55,17 +55,17 @@ const MAY_STAND: [bool; 256] = [
     false, false, false, false, false, false, false, false, false, false,
 ];
 
-fn may_stand(byte: u8) -> bool
+fn is_allowed_byte(byte: u8) -> bool
     ensures { result ≡ is_client_byte byte }
 {
-    MAY_STAND[byte as usize]
+    ALLOWED_BYTES[byte as usize]
 }
 
-fn may_all_stand(bytes: &[u8]) -> bool
+fn are_allowed_bytes(bytes: &[u8]) -> bool
     ensures { result ≡ list_all is_client_byte bytes.now }
 {
     for byte in bytes {
-        if !may_stand(*byte) {
+        if !is_allowed_byte(*byte) {
             return false;
         }
     }
@@ -76,17 +76,17 @@ fn may_all_stand(bytes: &[u8]) -> bool
 fn is_name(bytes: &[u8]) -> bool
     ensures { IsTrue result ↔ IsClientName bytes.now }
 {
-    !bytes.is_empty() && bytes.len() <= 8 && may_all_stand(bytes)
+    !bytes.is_empty() && bytes.len() <= 8 && are_allowed_bytes(bytes)
 }
 
 // Pads a few bytes to a block. It isn't inlined, since few texts are so short.
 #[cold]
 #[inline(never)]
-fn filled_up(bytes: &[u8]) -> [u8; MOST]
+fn filled_up(bytes: &[u8]) -> [u8; MAX_NAME_BYTES]
     requires { length bytes.now ≤ 8 }
     ensures { take (length bytes.now) result ≡ bytes.now }
 {
-    let mut block = [0; MOST];
+    let mut block = [0; MAX_NAME_BYTES];
     block[..bytes.len()].copy_from_slice(bytes);
     block
 }
@@ -94,12 +94,12 @@ fn filled_up(bytes: &[u8]) -> [u8; MOST]
 // Returns a block that begins with the first `len` bytes of a text.
 #[inline(always)]
 #[tactic(auto, using(crate::proofs::StartLemmas::front_of))]
-fn block_of(text: &[u8], len: usize) -> [u8; MOST]
+fn block_of(text: &[u8], len: usize) -> [u8; MAX_NAME_BYTES]
     requires within { len ≤ length text.now }
     requires short { len ≤ 8 }
     ensures { take len result ≡ take len text.now }
 {
-    match text.first_chunk::<MOST>() {
+    match text.first_chunk::<MAX_NAME_BYTES>() {
         Some(block) => *block,
         None => filled_up(&text[..len]),
     }
@@ -109,9 +109,9 @@ fn block_of(text: &[u8], len: usize) -> [u8; MOST]
 // bytes of a text, or eight if there is none. All eight are tested together.
 #[inline(always)]
 fn block_len(text: &[u8]) -> usize
-    requires { MOST ≤ length text.now }
-    ensures short { result ≤ 8 }
-    ensures stand { IsTrue (list_all is_client_byte (take result text.now)) }
+    requires { MAX_NAME_BYTES ≤ length text.now }
+    ensures within { result ≤ 8 }
+    ensures valid { IsTrue (list_all is_client_byte (take result text.now)) }
 {
     let bytes = u8x8::from_slice(text);
     let from_zero = bytes - u8x8::splat(b'0');
@@ -119,7 +119,7 @@ fn block_len(text: &[u8]) -> usize
     let stops = from_zero.simd_ge(u8x8::splat(10)) & from_a.simd_ge(u8x8::splat(26));
     let mask = stops.to_bitmask();
     if mask == 0 {
-        return MOST;
+        return MAX_NAME_BYTES;
     }
     mask.trailing_zeros() as usize
 }
@@ -130,10 +130,10 @@ fn block_len(text: &[u8]) -> usize
 fn short_len(text: &[u8]) -> usize
     requires { length text.now < 8 }
     ensures within { result ≤ length text.now }
-    ensures stand { IsTrue (list_all is_client_byte (take result text.now)) }
+    ensures valid { IsTrue (list_all is_client_byte (take result text.now)) }
 {
     for place in 0..text.len() {
-        if !may_stand(text[place]) {
+        if !is_allowed_byte(text[place]) {
             return place;
         }
     }
@@ -146,9 +146,9 @@ fn short_len(text: &[u8]) -> usize
 fn name_len(text: &[u8]) -> usize
     ensures within { result ≤ length text.now }
     ensures short { result ≤ 8 }
-    ensures stand { IsTrue (list_all is_client_byte (take result text.now)) }
+    ensures valid { IsTrue (list_all is_client_byte (take result text.now)) }
 {
-    if text.len() < MOST {
+    if text.len() < MAX_NAME_BYTES {
         return short_len(text);
     }
     block_len(text)
@@ -206,16 +206,16 @@ impl ClientName {
     {
         // The name has at most eight bytes. From the minimum the compiler knows this, so a copy of
         // them needs no loop.
-        &self.block[..MOST.min(self.len as usize)]
+        &self.block[..MAX_NAME_BYTES.min(self.len as usize)]
     }
 
     /// Returns the block that begins with the bytes of the name, and their number.
     #[inline(always)]
-    pub fn filled(&self) -> ([u8; MOST], usize)
-        ensures short { result.1 ≤ 8 }
+    pub fn filled(&self) -> ([u8; MAX_NAME_BYTES], usize)
+        ensures within { result.1 ≤ 8 }
         ensures bytes { take result.1 result.0 ≡ self.now }
     {
-        (self.block, MOST.min(self.len as usize))
+        (self.block, MAX_NAME_BYTES.min(self.len as usize))
     }
 
     /// Returns a second name with the same bytes, without allocating.
@@ -288,7 +288,7 @@ impl Who {
     /// Returns the bytes that are printed for it.
     pub fn as_bytes(&self) -> &[u8]
         ensures bytes { result.now ≡ who_text self.now }
-        ensures short { length result.now ≤ 8 }
+        ensures within { length result.now ≤ 8 }
     {
         match self {
             Who::Named(name) => name.as_bytes(),
@@ -298,8 +298,8 @@ impl Who {
     }
 
     /// Returns a block that begins with the bytes that are printed for it, and their number.
-    pub fn filled(&self) -> ([u8; MOST], usize)
-        ensures short { result.1 ≤ 8 }
+    pub fn filled(&self) -> ([u8; MAX_NAME_BYTES], usize)
+        ensures within { result.1 ≤ 8 }
         ensures bytes { take result.1 result.0 ≡ who_text self.now }
     {
         match self {

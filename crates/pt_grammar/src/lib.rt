@@ -21,6 +21,6 @@ pub use named_start::{
     timedwait_at_start, wait_at_start,
 };
 pub use script_line::{
-    ScriptBody, ScriptLine, read_client, read_said, read_script_line, read_short,
+    ScriptBody, ScriptLine, read_client, read_script_body, read_script_line, read_short,
 };
 pub use verb::TimedVerb;

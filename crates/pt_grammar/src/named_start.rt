@@ -13,12 +13,12 @@ ghost use Rattle.pt_types.specs.NamedVerbs.{call_on};
 ghost use Rattle.pt_grammar.specs.declared.call_line.CallLine.TheVariants as line;
 ghost use Rattle.pt_grammar.specs.declared.client.Who.TheVariants as who;
 ghost use Rattle.pt_grammar.specs.declared.script_line.ScriptBody.TheVariants as body;
-ghost use Rattle.pt_grammar.specs.Reading.{line_of, IsAsked};
-ghost use Rattle.pt_grammar.specs.Script.{asked_or_refused, body_read};
+ghost use Rattle.pt_grammar.specs.Reading.{line_of, IsCallOfVerb};
+ghost use Rattle.pt_grammar.specs.Script.{call_or_syntax, body_read};
 ghost use Rattle.pt_grammar.specs.Verbs.{call_until, named_word, timed_word, word_of};
 
 use crate::arguments::{kind_and_robust, only_deadline, only_moment, only_number};
-use crate::call_line::read_asked;
+use crate::call_line::read_call_word;
 use crate::verb::{TimedVerb, Verb};
 use pt_fields::Fields;
 use pt_types::{Call, Deadline, Moment, MutexKind, NamedVerb};
@@ -62,85 +62,85 @@ fn after<'a>(text: &'a [u8], start: &[u8]) -> Option<&'a [u8]>
 
 // Returns this word and what follows it and a space, if a text begins with these.
 #[inline(always)]
-fn said<'a>(text: &'a [u8], verb: NamedVerb, start: &[u8]) -> Option<(NamedVerb, &'a [u8])>
+fn parse_verb<'a>(text: &'a [u8], verb: NamedVerb, start: &[u8]) -> Option<(NamedVerb, &'a [u8])>
     requires is { start.now ≡ named_word verb ++ 32 ∷ [] }
     requires long { 4 ≤ length start.now }
-    ensures { IfSome result (λ said. text.now ≡ named_word said.0 ++ 32 ∷ said.1.now) }
+    ensures { IfSome result (λ parsed. text.now ≡ named_word parsed.0 ++ 32 ∷ parsed.1.now) }
 {
     let rest = after(text, start)?;
     Some((verb, rest))
 }
 
-// Does what said does, for the words that begin with `b`.
-fn said_by_b(text: &[u8]) -> Option<(NamedVerb, &[u8])>
-    ensures { IfSome result (λ said. text.now ≡ named_word said.0 ++ 32 ∷ said.1.now) }
+// Does what parse_verb does, for the words that begin with `b`.
+fn parse_b_verb(text: &[u8]) -> Option<(NamedVerb, &[u8])>
+    ensures { IfSome result (λ parsed. text.now ≡ named_word parsed.0 ++ 32 ∷ parsed.1.now) }
 {
-    if let Some(said) = said(text, NamedVerb::Bwait, b"bwait ") {
-        return Some(said);
+    if let Some(parsed) = parse_verb(text, NamedVerb::Bwait, b"bwait ") {
+        return Some(parsed);
     }
-    if let Some(said) = said(text, NamedVerb::Broadcast, b"broadcast ") {
-        return Some(said);
+    if let Some(parsed) = parse_verb(text, NamedVerb::Broadcast, b"broadcast ") {
+        return Some(parsed);
     }
-    said(text, NamedVerb::BarrierDestroy, b"barrier-destroy ")
+    parse_verb(text, NamedVerb::BarrierDestroy, b"barrier-destroy ")
 }
 
-// Does what said does, for the words that begin with `c`.
-fn said_by_c(text: &[u8]) -> Option<(NamedVerb, &[u8])>
-    ensures { IfSome result (λ said. text.now ≡ named_word said.0 ++ 32 ∷ said.1.now) }
+// Does what parse_verb does, for the words that begin with `c`.
+fn parse_c_verb(text: &[u8]) -> Option<(NamedVerb, &[u8])>
+    ensures { IfSome result (λ parsed. text.now ≡ named_word parsed.0 ++ 32 ∷ parsed.1.now) }
 {
-    if let Some(said) = said(text, NamedVerb::Consistent, b"consistent ") {
-        return Some(said);
+    if let Some(parsed) = parse_verb(text, NamedVerb::Consistent, b"consistent ") {
+        return Some(parsed);
     }
-    if let Some(said) = said(text, NamedVerb::CondInit, b"cond-init ") {
-        return Some(said);
+    if let Some(parsed) = parse_verb(text, NamedVerb::CondInit, b"cond-init ") {
+        return Some(parsed);
     }
-    said(text, NamedVerb::CondDestroy, b"cond-destroy ")
+    parse_verb(text, NamedVerb::CondDestroy, b"cond-destroy ")
 }
 
-// Does what said does, for the words that begin with `r`.
-fn said_by_r(text: &[u8]) -> Option<(NamedVerb, &[u8])>
-    ensures { IfSome result (λ said. text.now ≡ named_word said.0 ++ 32 ∷ said.1.now) }
+// Does what parse_verb does, for the words that begin with `r`.
+fn parse_r_verb(text: &[u8]) -> Option<(NamedVerb, &[u8])>
+    ensures { IfSome result (λ parsed. text.now ≡ named_word parsed.0 ++ 32 ∷ parsed.1.now) }
 {
-    if let Some(said) = said(text, NamedVerb::Rdlock, b"rdlock ") {
-        return Some(said);
+    if let Some(parsed) = parse_verb(text, NamedVerb::Rdlock, b"rdlock ") {
+        return Some(parsed);
     }
-    if let Some(said) = said(text, NamedVerb::Rwunlock, b"rwunlock ") {
-        return Some(said);
+    if let Some(parsed) = parse_verb(text, NamedVerb::Rwunlock, b"rwunlock ") {
+        return Some(parsed);
     }
-    if let Some(said) = said(text, NamedVerb::RwlockInit, b"rwlock-init ") {
-        return Some(said);
+    if let Some(parsed) = parse_verb(text, NamedVerb::RwlockInit, b"rwlock-init ") {
+        return Some(parsed);
     }
-    said(text, NamedVerb::RwlockDestroy, b"rwlock-destroy ")
+    parse_verb(text, NamedVerb::RwlockDestroy, b"rwlock-destroy ")
 }
 
-// Does what said does, for the words that begin with `t`.
-fn said_by_t(text: &[u8]) -> Option<(NamedVerb, &[u8])>
-    ensures { IfSome result (λ said. text.now ≡ named_word said.0 ++ 32 ∷ said.1.now) }
+// Does what parse_verb does, for the words that begin with `t`.
+fn parse_t_verb(text: &[u8]) -> Option<(NamedVerb, &[u8])>
+    ensures { IfSome result (λ parsed. text.now ≡ named_word parsed.0 ++ 32 ∷ parsed.1.now) }
 {
-    if let Some(said) = said(text, NamedVerb::Trylock, b"trylock ") {
-        return Some(said);
+    if let Some(parsed) = parse_verb(text, NamedVerb::Trylock, b"trylock ") {
+        return Some(parsed);
     }
-    if let Some(said) = said(text, NamedVerb::Tryrdlock, b"tryrdlock ") {
-        return Some(said);
+    if let Some(parsed) = parse_verb(text, NamedVerb::Tryrdlock, b"tryrdlock ") {
+        return Some(parsed);
     }
-    said(text, NamedVerb::Trywrlock, b"trywrlock ")
+    parse_verb(text, NamedVerb::Trywrlock, b"trywrlock ")
 }
 
 // Returns the word that a text begins with, and what follows it and a space. Few words share a
 // first letter, so few are compared.
-fn said_at_start(text: &[u8]) -> Option<(NamedVerb, &[u8])>
-    ensures { IfSome result (λ said. text.now ≡ named_word said.0 ++ 32 ∷ said.1.now) }
+fn word_at_start(text: &[u8]) -> Option<(NamedVerb, &[u8])>
+    ensures { IfSome result (λ parsed. text.now ≡ named_word parsed.0 ++ 32 ∷ parsed.1.now) }
 {
     match text.first() {
-        Some(b'l') => said(text, NamedVerb::Lock, b"lock "),
-        Some(b'u') => said(text, NamedVerb::Unlock, b"unlock "),
-        Some(b'w') => said(text, NamedVerb::Wrlock, b"wrlock "),
-        Some(b's') => said(text, NamedVerb::Signal, b"signal "),
-        Some(b'm') => said(text, NamedVerb::MutexDestroy, b"mutex-destroy "),
-        Some(b'b') => said_by_b(text),
-        Some(b'c') => said_by_c(text),
-        Some(b'r') => said_by_r(text),
-        Some(b't') => said_by_t(text),
+        Some(b'l') => parse_verb(text, NamedVerb::Lock, b"lock "),
+        Some(b'u') => parse_verb(text, NamedVerb::Unlock, b"unlock "),
+        Some(b'w') => parse_verb(text, NamedVerb::Wrlock, b"wrlock "),
+        Some(b's') => parse_verb(text, NamedVerb::Signal, b"signal "),
+        Some(b'm') => parse_verb(text, NamedVerb::MutexDestroy, b"mutex-destroy "),
+        Some(b'b') => parse_b_verb(text),
+        Some(b'c') => parse_c_verb(text),
+        Some(b'r') => parse_r_verb(text),
+        Some(b't') => parse_t_verb(text),
         _ => None,
     }
 }
@@ -150,23 +150,23 @@ fn said_at_start(text: &[u8]) -> Option<(NamedVerb, &[u8])>
 /// such calls, and they are read without a search for spaces.
 #[inline(always)]
 pub fn named_at_start(text: &[u8]) -> Option<(NamedVerb, &[u8])>
-    ensures called { IfSome result (λ said. (client : List ℕ) → IsName said.1.now
+    ensures called { IfSome result (λ parsed. (client : List ℕ) → IsName parsed.1.now
         → body_read (who.Named client) text.now
-        ≡ Ok (body.Ask (call_on said.0 said.1.now))) }
-    ensures refused { IfSome result (λ said. (client : List ℕ) → (IsName said.1.now → ⊥)
+        ≡ Ok (body.Ask (call_on parsed.0 parsed.1.now))) }
+    ensures refused { IfSome result (λ parsed. (client : List ℕ) → (IsName parsed.1.now → ⊥)
         → length text.now ≤ 128
         → body_read (who.Named client) text.now ≡ Err refusal.Syntax) }
 {
-    said_at_start(text)
+    word_at_start(text)
 }
 
 /// Returns what follows `wait` up to the next space, and what follows that space, if a text has
 /// these parts. If both are names, a client that says this waits at the first with the second.
 #[inline(always)]
 pub fn wait_at_start(text: &[u8]) -> Option<(&[u8], &[u8])>
-    ensures { IfSome result (λ said. (client : List ℕ) → IsName said.0.now → IsName said.1.now
+    ensures { IfSome result (λ parsed. (client : List ℕ) → IsName parsed.0.now → IsName parsed.1.now
         → body_read (who.Named client) text.now
-        ≡ Ok (body.Ask (call.Wait said.0.now said.1.now))) }
+        ≡ Ok (body.Ask (call.Wait parsed.0.now parsed.1.now))) }
 {
     let args = after(text, b"wait ")?;
     let mut fields = Fields::new(args);
@@ -178,7 +178,7 @@ pub fn wait_at_start(text: &[u8]) -> Option<(&[u8], &[u8])>
 // Returns the word of a call of one name and a deadline that a text begins with, and what follows
 // the word and a space.
 fn timed_word_at_start(text: &[u8]) -> Option<(TimedVerb, &[u8])>
-    ensures { IfSome result (λ said. text.now ≡ timed_word said.0 ++ 32 ∷ said.1.now) }
+    ensures { IfSome result (λ parsed. text.now ≡ timed_word parsed.0 ++ 32 ∷ parsed.1.now) }
 {
     if let Some(rest) = after(text, b"timedlock ") {
         return Some((TimedVerb::Timedlock, rest));
@@ -194,9 +194,9 @@ fn timed_word_at_start(text: &[u8]) -> Option<(TimedVerb, &[u8])>
 /// the deadline after that, if a text has these parts. If the second is a name, a client that says
 /// this makes this call.
 pub fn timed_at_start(text: &[u8]) -> Option<(TimedVerb, &[u8], Deadline)>
-    ensures { IfSome result (λ said. (client : List ℕ) → IsName said.1.now
+    ensures { IfSome result (λ parsed. (client : List ℕ) → IsName parsed.1.now
         → body_read (who.Named client) text.now
-        ≡ Ok (body.Ask (call_until said.0 said.1.now said.2))) }
+        ≡ Ok (body.Ask (call_until parsed.0 parsed.1.now parsed.2))) }
 {
     let (verb, args) = timed_word_at_start(text)?;
     let mut fields = Fields::new(args);
@@ -207,37 +207,37 @@ pub fn timed_at_start(text: &[u8]) -> Option<(TimedVerb, &[u8], Deadline)>
 
 // Returns the call that this verb makes with what follows its word and a space, if a text begins
 // with these.
-fn asked_by(text: &[u8], verb: Verb, start: &[u8]) -> Option<Option<Call>>
+fn parse_call_of(text: &[u8], verb: Verb, start: &[u8]) -> Option<Option<Call>>
     requires is { start.now ≡ word_of verb ++ 32 ∷ [] }
     requires long { 4 ≤ length start.now }
-    requires asks { (args : List (List ℕ)) (asked : Option Call) → IsAsked verb args asked
-        → option_map line.Ask asked ≡ line_of verb args }
-    ensures called { IfSome result (λ asked. IfSome asked (λ call. (client : List ℕ)
+    requires request { (args : List (List ℕ)) (parsed : Option Call) → IsCallOfVerb verb args parsed
+        → option_map line.Ask parsed ≡ line_of verb args }
+    ensures called { IfSome result (λ parsed. IfSome parsed (λ call. (client : List ℕ)
         → body_read (who.Named client) text.now ≡ Ok (body.Ask call))) }
-    ensures read { IfSome result (λ asked. (client : List ℕ) → length text.now ≤ 128
-        → body_read (who.Named client) text.now ≡ asked_or_refused asked) }
+    ensures read { IfSome result (λ parsed. (client : List ℕ) → length text.now ≤ 128
+        → body_read (who.Named client) text.now ≡ call_or_syntax parsed) }
 {
     let args = after(text, start)?;
-    Some(read_asked(verb, Fields::new(args)))
+    Some(read_call_word(verb, Fields::new(args)))
 }
 
 /// Returns the wait with a deadline, if a text begins with the word of one. A client's line that
 /// says this asks for that wait, or is refused as SYNTAX if there is none.
 pub fn timedwait_at_start(text: &[u8]) -> Option<Option<Call>>
-    ensures called { IfSome result (λ asked. IfSome asked (λ call. (client : List ℕ)
+    ensures called { IfSome result (λ parsed. IfSome parsed (λ call. (client : List ℕ)
         → body_read (who.Named client) text.now ≡ Ok (body.Ask call))) }
-    ensures read { IfSome result (λ asked. (client : List ℕ) → length text.now ≤ 128
-        → body_read (who.Named client) text.now ≡ asked_or_refused asked) }
+    ensures read { IfSome result (λ parsed. (client : List ℕ) → length text.now ≤ 128
+        → body_read (who.Named client) text.now ≡ call_or_syntax parsed) }
 {
-    asked_by(text, Verb::Timedwait, b"timedwait ")
+    parse_call_of(text, Verb::Timedwait, b"timedwait ")
 }
 
 /// Returns what follows `mutex-init` up to the next space, and the kind and robustness after that,
 /// if a text has these parts. If the first is a name, a client that says this makes this mutex.
 pub fn mutex_init_at_start(text: &[u8]) -> Option<(&[u8], MutexKind, bool)>
-    ensures { IfSome result (λ said. (client : List ℕ) → IsName said.0.now
+    ensures { IfSome result (λ parsed. (client : List ℕ) → IsName parsed.0.now
         → body_read (who.Named client) text.now
-        ≡ Ok (body.Ask (call.MutexInit said.0.now said.1 said.2))) }
+        ≡ Ok (body.Ask (call.MutexInit parsed.0.now parsed.1 parsed.2))) }
 {
     let args = after(text, b"mutex-init ")?;
     let mut fields = Fields::new(args);
@@ -249,9 +249,9 @@ pub fn mutex_init_at_start(text: &[u8]) -> Option<(&[u8], MutexKind, bool)>
 /// Returns what follows `barrier-init` up to the next space, and the count after that, if a text
 /// has these parts. If the first is a name, a client that says this makes this barrier.
 pub fn barrier_init_at_start(text: &[u8]) -> Option<(&[u8], u64)>
-    ensures { IfSome result (λ said. (client : List ℕ) → IsName said.0.now
+    ensures { IfSome result (λ parsed. (client : List ℕ) → IsName parsed.0.now
         → body_read (who.Named client) text.now
-        ≡ Ok (body.Ask (call.BarrierInit said.0.now said.1))) }
+        ≡ Ok (body.Ask (call.BarrierInit parsed.0.now parsed.1))) }
 {
     let args = after(text, b"barrier-init ")?;
     let mut fields = Fields::new(args);

@@ -1,6 +1,6 @@
 ghost use Rattle.std.specs.Prelude.{◌≡◌};
 ghost use Rattle.std.specs.Option.{option_copied};
-ghost use Rattle.pt_grammar.specs.Clients.{before_space, behind_space, who_named};
+ghost use Rattle.pt_grammar.specs.Clients.{before_space, after_space, who_named};
 ghost use Rattle.pt_grammar.specs.Script.{body_of, body_read, IsReadAs, short_read, script_read};
 
 use crate::call_line::{CallLine, read_call};
@@ -8,7 +8,7 @@ use crate::client::{Who, client_at_start};
 use crate::cut::Cut;
 use crate::verbs::is_same;
 use pt_fields::first_space;
-use pt_types::{Call, Clock, MOST_IN_LINE, Moment, Priority, Refusal};
+use pt_types::{Call, Clock, MAX_LINE_LENGTH, Moment, Priority, Refusal};
 
 /// What a line of a script says.
 #[derive(PartialEq, Eq, Drop)]
@@ -31,7 +31,7 @@ pub struct ScriptLine {
 // Returns what precedes the first space, and what follows it.
 fn split_at_space(text: &[u8]) -> (&[u8], Option<&[u8]>)
     ensures before { result.0.now ≡ before_space text.now }
-    ensures behind { option_copied result.1 ≡ behind_space text.now }
+    ensures rest { option_copied result.1 ≡ after_space text.now }
 {
     match first_space(text) {
         Some(end) => (&text[..end], Some(&text[end + 1..])),
@@ -54,7 +54,7 @@ fn body_of(who: &Who, line: CallLine) -> Result<ScriptBody, Refusal>
 /// Reads what is said after a client and a space. It isn't inlined, so that more frequent lines
 /// need not clear space for it.
 #[inline(never)]
-pub fn read_said(who: &Who, text: &[u8]) -> Result<ScriptBody, Refusal>
+pub fn read_script_body(who: &Who, text: &[u8]) -> Result<ScriptBody, Refusal>
     ensures { result ≡ body_read who.now text.now }
 {
     match who {
@@ -71,7 +71,7 @@ pub fn read_said(who: &Who, text: &[u8]) -> Result<ScriptBody, Refusal>
 #[inline(always)]
 pub fn read_client(text: &[u8]) -> (Who, Option<&[u8]>)
     ensures who { result.0 ≡ who_named (before_space text.now) }
-    ensures behind { option_copied result.1 ≡ behind_space text.now }
+    ensures rest { option_copied result.1 ≡ after_space text.now }
 {
     match client_at_start(text) {
         Some((name, rest)) => (Who::Named(name), Some(rest)),
@@ -87,7 +87,7 @@ pub fn read_client(text: &[u8]) -> (Who, Option<&[u8]>)
 #[inline(never)]
 fn read_other_client(text: &[u8]) -> (Who, Option<&[u8]>)
     ensures who { result.0 ≡ who_named (before_space text.now) }
-    ensures behind { option_copied result.1 ≡ behind_space text.now }
+    ensures rest { option_copied result.1 ≡ after_space text.now }
 {
     let (name, rest) = split_at_space(text);
     (Who::named(name), rest)
@@ -100,7 +100,7 @@ pub fn read_short(text: &[u8]) -> ScriptLine
     let (who, rest) = read_client(text);
     match rest {
         Some(rest) => {
-            let body = read_said(&who, rest);
+            let body = read_script_body(&who, rest);
             ScriptLine { who, body }
         }
         None => ScriptLine {
@@ -115,7 +115,7 @@ pub fn read_script_line(text: &[u8]) -> ScriptLine
     ensures value { result ≡ script_read text.now }
     ensures read { IsReadAs text.now result }
 {
-    if text.len() > MOST_IN_LINE {
+    if text.len() > MAX_LINE_LENGTH {
         return ScriptLine::long();
     }
     read_short(text)

@@ -8,7 +8,7 @@ use std::alloc::{AllocError, Allocator};
 const FEWEST: usize = 256;
 
 /// The greatest number of hints.
-const MOST: usize = 16384;
+const MAX_PLACES: usize = 16384;
 
 /// For each value of a key's low bits, the place that was noted last with such a key.
 ///
@@ -58,7 +58,7 @@ impl<A: Allocator + Copy> Hints<A> {
 
     // Returns whether there are more than twice as many hints as rows, or as many as there may be.
     fn suffice(&self, rows: usize) -> bool {
-        self.places.len() / 2 > rows || self.places.len() >= MOST
+        self.places.len() / 2 > rows || self.places.len() >= MAX_PLACES
     }
 
     // Doubles the number of hints, or makes the first ones.
@@ -104,7 +104,7 @@ impl<A: Allocator + Copy> Hints<A> {
     }
 
     /// Makes as many hints as there may be.
-    pub fn grow_to_most(&mut self) -> Result<(), AllocError> {
-        self.places.resize(MOST, 0)
+    pub fn grow_to_max(&mut self) -> Result<(), AllocError> {
+        self.places.resize(MAX_PLACES, 0)
     }
 }

@@ -18,8 +18,8 @@ fn eight_equal(one: &[u8; 8], other: &[u8; 8]) -> bool
 
 // Returns whether both texts have at least four bytes, and the same first four.
 fn first_four_equal(one: &[u8], other: &[u8]) -> bool
-    ensures enough { result ≡ true → 4 ≤ length other.now }
-    ensures same { result ≡ true → take 4 one.now ≡ take 4 other.now }
+    ensures len { result ≡ true → 4 ≤ length other.now }
+    ensures equal { result ≡ true → take 4 one.now ≡ take 4 other.now }
 {
     match (one.first_chunk::<4>(), other.first_chunk::<4>()) {
         (Some(first), Some(second)) => four_equal(first, second),
@@ -41,8 +41,8 @@ fn last_four_equal(one: &[u8], other: &[u8]) -> bool
 
 // Returns whether both texts have at least eight bytes, and the same first eight.
 fn first_eight_equal(one: &[u8], other: &[u8]) -> bool
-    ensures enough { result ≡ true → 8 ≤ length other.now }
-    ensures same { result ≡ true → take 8 one.now ≡ take 8 other.now }
+    ensures len { result ≡ true → 8 ≤ length other.now }
+    ensures equal { result ≡ true → take 8 one.now ≡ take 8 other.now }
 {
     match (one.first_chunk::<8>(), other.first_chunk::<8>()) {
         (Some(first), Some(second)) => eight_equal(first, second),
@@ -85,7 +85,7 @@ fn eights_equal(one: &[u8], other: &[u8]) -> bool
 fn halves_equal(one: &[u8], other: &[u8]) -> bool
     requires same { length one.now ≡ length other.now }
     requires enough { 16 ≤ length other.now }
-    requires few { length other.now ≤ 32 }
+    requires within { length other.now ≤ 32 }
     ensures { result ≡ true → one.now ≡ other.now }
 {
     let from = other.len() - 16;
@@ -97,7 +97,7 @@ fn halves_equal(one: &[u8], other: &[u8]) -> bool
 #[inline(never)]
 fn are_long_equal(one: &[u8], other: &[u8]) -> bool
     requires same { length one.now ≡ length other.now }
-    requires few { length other.now ≤ 32 }
+    requires within { length other.now ≤ 32 }
     ensures { result ≡ true → one.now ≡ other.now }
 {
     match other.len() {
@@ -108,7 +108,7 @@ fn are_long_equal(one: &[u8], other: &[u8]) -> bool
 
 // Returns whether texts of fewer than four bytes are the same.
 #[inline(always)]
-fn few_equal(one: &[u8], other: &[u8]) -> bool
+fn short_equal(one: &[u8], other: &[u8]) -> bool
     ensures { result ≡ true → one.now ≡ other.now }
 {
     match (one, other) {
@@ -124,11 +124,11 @@ fn few_equal(one: &[u8], other: &[u8]) -> bool
 #[inline(always)]
 fn are_equal(one: &[u8], other: &[u8]) -> bool
     requires same { length one.now ≡ length other.now }
-    requires few { length other.now ≤ 32 }
+    requires within { length other.now ≤ 32 }
     ensures { result ≡ true → one.now ≡ other.now }
 {
     match other.len() {
-        0..=3 => few_equal(one, other),
+        0..=3 => short_equal(one, other),
         4..=8 => fours_equal(one, other),
         _ => are_long_equal(one, other),
     }

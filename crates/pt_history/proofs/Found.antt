@@ -9,10 +9,10 @@ use Rattle.pt_model.specs.declared.entry.Entry.{Entry}
 use Rattle.pt_model.specs.StartRows.{StartRows}
 use Rattle.pt_history.specs.declared.compact.Compact.{Compact}
 use Rattle.pt_history.specs.declared.records.Records.{Records}
-use Rattle.pt_history.specs.Compact.{Parts, IsStored, base_of, decoded, text_at}
+use Rattle.pt_history.specs.Compact.{Parts, IsStored, base_of, read_compact, text_at}
 use Rattle.pt_history.specs.Records.{parts_of}
 use Rattle.pt_history.specs.Stored.{Stored, entries_of}
-use Rattle.pt_history.proofs.Kept.{length-entries, viewed}
+use Rattle.pt_history.proofs.Unchanged.{length-entries, viewed}
 
 -- the part of the texts that is one text
 pub part-text : (seen texts : List ℕ) (from n : ℕ) → seen ≡ texts
@@ -42,17 +42,17 @@ pub seen-at : {A : Type 0} (seen : Stored) (start : StartRows) (limit room place
     → viewed start (entries_of start.at r items) limit room ≡ seen → base ≡ base_of start.at
     → now ≡ items → place - start.at < length now
     → c ≡ slice_index_or now (place - start.at) c
-    → slice_get seen.entries (place - seen.start.at) ≡ Some (decoded base (parts_of r) c)
+    → slice_get seen.entries (place - seen.start.at) ≡ Some (read_compact base (parts_of r) c)
 seen-at seen start limit room place base r items now c v b e l f =
     let within : place - start.at < length items =
     subst (λ (x : List Compact). place - start.at < length x) e l in
     let same : c ≡ slice_index_or items (place - start.at) c =
     f ∙ ap (λ (x : List Compact). slice_index_or x (place - start.at) c) e in
     ap (λ (s : Stored). slice_get s.entries (place - s.start.at)) (sym v)
-    ∙ slice_get-map (decoded (base_of start.at) (parts_of r)) items (place - start.at)
-    ∙ ap (λ (o : Option Compact). option_map (decoded (base_of start.at) (parts_of r)) o)
+    ∙ slice_get-map (read_compact (base_of start.at) (parts_of r)) items (place - start.at)
+    ∙ ap (λ (o : Option Compact). option_map (read_compact (base_of start.at) (parts_of r)) o)
     (slice_get_read items (length items) (place - start.at) c refl within same)
-    ∙ ap (λ (x : ℕ). Some (decoded x (parts_of r) c)) (sym b)
+    ∙ ap (λ (x : ℕ). Some (read_compact x (parts_of r) c)) (sym b)
 
 -- no entry is seen past the end
 pub seen-past : {A : Type 0} (seen : Stored) (start : StartRows) (limit room place : ℕ)

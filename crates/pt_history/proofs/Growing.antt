@@ -11,7 +11,7 @@ use Rattle.pt_history.specs.declared.compact.Compact.{Compact}
 use Rattle.pt_history.specs.declared.compact.TimeLimit.{TimeLimit}
 use Rattle.pt_hints.specs.declared.hints.Hints.{Hints}
 use Rattle.pt_history.specs.declared.records.Records.{Records}
-use Rattle.pt_history.specs.Compact.{Parts, decoded, IsStored, ShowsAlone}
+use Rattle.pt_history.specs.Compact.{Parts, read_compact, IsStored, ShowsSingle}
 use Rattle.pt_history.specs.Records.{parts_of, Shows, ShowsIfSome}
 
 -- the records grew by these parts, within the room of one entry
@@ -50,7 +50,7 @@ within_end xs ys x i e f = omega (arith, ap length e, length-append xs (x ∷ []
 -- an entry that is read off records that grew in this way
 pub shows-appended : {A : Type 0} (b : ℕ) (e : Entry) (old new : Records A) (c : Compact)
     (more : Parts)
-    → Appends old new more → decoded b (parts_of new) c ≡ e → IsStored (parts_of new) c
+    → Appends old new more → read_compact b (parts_of new) c ≡ e → IsStored (parts_of new) c
     → Shows b e old new c
 shows-appended b e old new c more a same stored = record {
   same = same;
@@ -65,7 +65,7 @@ shows-appended b e old new c more a same stored = record {
     moments = omega (arith, h.moments, a.moments_len, a.moments_capacity);
     wholes = omega (arith, h.wholes, a.wholes_len, a.wholes_capacity);
   };
-  few = omega (arith, a.wholes_len);
+  bounded = omega (arith, a.wholes_len);
 }
 
 -- only texts are appended
@@ -174,9 +174,9 @@ append-nothing old = record {
 }
 
 -- an entry that needs nothing in the records
-pub shows-alone : {A : Type 0} (b : ℕ) (e : Entry) (old : Records A) (r : Option Compact)
-    → IfSome r (λ c. ShowsAlone b c e) → ShowsIfSome b e old old r
-shows-alone b e old None s = refl
-shows-alone b e old (Some c) s =
+pub shows-single : {A : Type 0} (b : ℕ) (e : Entry) (old : Records A) (r : Option Compact)
+    → IfSome r (λ c. ShowsSingle b c e) → ShowsIfSome b e old old r
+shows-single b e old None s = refl
+shows-single b e old (Some c) s =
     shows-appended b e old old c _ (append-nothing old) (s.same (parts_of old))
     (s.stored (parts_of old))

@@ -2,8 +2,8 @@
 pub mod Counts
 -- Places: the places of a stored history
 pub mod Places
--- Kept: the invariant of a stored history
-pub mod Kept
+-- Unchanged: the invariant of a stored history
+pub mod Unchanged
 -- Growing: what a stored entry appends to the records
 pub mod Growing
 -- Stable: stored entries stay the same while the records grow
@@ -24,5 +24,5 @@ pub mod Calls
 pub mod Wholes
 -- Widened: records whose lists are unchanged, with at least as much memory
 pub mod Widened
--- Seen: what is seen of a stored history while its fields change
-pub mod Seen
+-- Views: what is seen of a stored history while its fields change
+pub mod Views

@@ -10,17 +10,17 @@ use Rattle.pt_model.specs.declared.entry.Entry.{Entry}
 use Rattle.pt_model.specs.StartRows.{StartRows}
 use Rattle.pt_history.specs.declared.compact.Compact.{Compact}
 use Rattle.pt_history.specs.declared.records.Records.{Records}
-use Rattle.pt_history.specs.Compact.{Parts, base_of, decoded}
-use Rattle.pt_history.specs.Records.{parts_of, HasRoom, KeepsParts}
+use Rattle.pt_history.specs.Compact.{Parts, base_of, read_compact}
+use Rattle.pt_history.specs.Records.{parts_of, HasPartsRoom, KeepsParts}
 use Rattle.pt_history.specs.Stored.{Stored, IsRecorded, entries_of}
-use Rattle.pt_history.proofs.Kept.{length-entries, viewed}
+use Rattle.pt_history.proofs.Unchanged.{length-entries, viewed}
 
 -- the entries are unchanged while the parts are
 pub entries-same : {A : Type 0} (at : ℕ) (old new : Records A) (cs ds : List Compact)
     → ds ≡ cs → parts_of new ≡ parts_of old → entries_of at new ds ≡ entries_of at old cs
 entries-same at old new cs ds e p =
     ap (λ (x : List Compact). entries_of at new x) e
-    ∙ ap (λ (x : Parts). map (decoded (base_of at) x) cs) p
+    ∙ ap (λ (x : Parts). map (read_compact (base_of at) x) cs) p
 
 -- what is seen is unchanged while the entries are
 pub seen-same : (seen : Stored) (start : StartRows) (es ds : List Entry) (limit room : ℕ)
@@ -45,12 +45,12 @@ seen-length seen start at limit room r cs v =
 
 -- the records with room for m entries
 pub recorded-room : {A : Type 0} (old new : Records A) (cs ds : List Compact) (n m : ℕ)
-    → ds ≡ cs → KeepsParts old new → HasRoom new m → IsRecorded old cs n → IsRecorded new ds m
+    → ds ≡ cs → KeepsParts old new → HasPartsRoom new m → IsRecorded old cs n → IsRecorded new ds m
 recorded-room old new cs ds n m e k h r =
     subst (λ (x : List Compact). IsRecorded new x m) (sym e) (record {
       stored = rw k.same r.stored;
       room = h;
-      few = omega (arith, k.few, r.few);
+      bounded = omega (arith, k.bounded, r.bounded);
     })
 
 -- what holds of a success

@@ -12,8 +12,8 @@ use Rattle.pt_history.specs.declared.compact.Compact.{Compact}
 use Rattle.pt_history.specs.declared.compact.Compact.TheVariants.{Join, Named, Barrier, Timed, Wait}
 use Rattle.pt_history.specs.declared.compact.Compact.TheVariants.{TimedWait, Death, Moment, Grant}
 use Rattle.pt_history.specs.declared.compact.Compact.TheVariants.{Trip, Yield, Expire, Whole}
-use Rattle.pt_history.specs.Compact.{Parts, decoded, IsStored, IsText, AreTexts, text_at}
-use Rattle.pt_history.specs.Records.{joined, HasGrown, HasRoom}
+use Rattle.pt_history.specs.Compact.{Parts, read_compact, IsStored, IsText, AreTexts, text_at}
+use Rattle.pt_history.specs.Records.{join_parts, HasGrown, HasPartsRoom}
 use Rattle.pt_history.specs.declared.records.Records.{Records}
 use Rattle.std.proofs.lemmas.List.{map-append}
 use Rattle.std.proofs.lemmas.List.Elements.{All-append}
@@ -43,7 +43,7 @@ longer : {X : Type 0} (xs ys : List X) (i : ℕ) → i < length xs → i < lengt
 longer xs ys i h = omega (arith, length-append xs ys)
 
 -- what an entry refers to is still stored
-pub stays : (p q : Parts) (c : Compact) → IsStored p c → IsStored (joined p q) c
+pub stays : (p q : Parts) (c : Compact) → IsStored p c → IsStored (join_parts p q) c
 stays p q (Join k c) s = tt
 stays p q (Named w a n c i) s = text-stays p.texts q.texts i n s
 stays p q (Barrier a n c i k) s = text-stays p.texts q.texts i n s
@@ -66,7 +66,7 @@ stays p q (Whole i) s = longer p.wholes q.wholes i s
 
 -- the entry is still the same
 pub stable : (b : ℕ) (p q : Parts) (c : Compact) → IsStored p c
-    → decoded b (joined p q) c ≡ decoded b p c
+    → read_compact b (join_parts p q) c ≡ read_compact b p c
 stable b p q (Join k c) s = refl
 stable b p q (Named w a n c i) s = rw (text-stable p.texts q.texts i n s.within)
 stable b p q (Barrier a n c i k) s = rw (text-stable p.texts q.texts i n s.within)
@@ -104,15 +104,15 @@ map-alike f g (x ∷ xs) h =
     rw (h 0 x (omega arith), map-alike f g xs (λ k d l. h (suc k) d (omega arith)))
 
 -- the entries are still the same, and one more follows
-pub decoded-push : (b : ℕ) (p r : Parts) (cs : List Compact) (c : Compact) (e : Entry)
-    → HasGrown p r → All (IsStored p) cs → decoded b r c ≡ e
-    → map (decoded b r) (cs ++ c ∷ []) ≡ map (decoded b p) cs ++ e ∷ []
-decoded-push b p r cs c e g a same =
-    let alike : map (decoded b r) cs ≡ map (decoded b p) cs =
-    subst (λ (x : Parts). map (decoded b x) cs ≡ map (decoded b p) cs) (sym g.joined)
-    (map-alike (decoded b (joined p g.more)) (decoded b p) cs
+pub read_compact-push : (b : ℕ) (p r : Parts) (cs : List Compact) (c : Compact) (e : Entry)
+    → HasGrown p r → All (IsStored p) cs → read_compact b r c ≡ e
+    → map (read_compact b r) (cs ++ c ∷ []) ≡ map (read_compact b p) cs ++ e ∷ []
+read_compact-push b p r cs c e g a same =
+    let alike : map (read_compact b r) cs ≡ map (read_compact b p) cs =
+    subst (λ (x : Parts). map (read_compact b x) cs ≡ map (read_compact b p) cs) (sym g.joined)
+    (map-alike (read_compact b (join_parts p g.more)) (read_compact b p) cs
     (λ k d l. stable b p g.more (slice_index_or cs k d) (a k d l))) in
-    map-append (decoded b r) cs (c ∷ []) ∙ cc
+    map-append (read_compact b r) cs (c ∷ []) ∙ cc
 
 one-stored : (p : Parts) (c : Compact) → IsStored p c → All (IsStored p) (c ∷ [])
 one-stored p c s zero d l = s
@@ -128,7 +128,7 @@ stored-push p r cs c g a s =
     (one-stored r c s)
 
 -- room for more is room for fewer
-pub fewer : {A : Type 0} (r : Records A) (n m : ℕ) → HasRoom r n → m ≤ n → HasRoom r m
+pub fewer : {A : Type 0} (r : Records A) (n m : ℕ) → HasPartsRoom r n → m ≤ n → HasPartsRoom r m
 fewer r n m h l = record {
   texts = omega (arith, h.texts);
   limits = omega (arith, h.limits);

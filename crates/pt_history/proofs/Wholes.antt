@@ -3,11 +3,11 @@ use Rattle.std.proofs.Common.{ℕ, ◌≡◌, ◌≤◌, sym, subst, vec_len}
 use Rattle.pt_model.specs.declared.entry.Entry.{Entry}
 use Rattle.pt_history.specs.declared.compact.Compact.{Compact}
 use Rattle.pt_history.specs.declared.records.Records.{Records}
-use Rattle.pt_history.specs.Records.{HasRoom, Shows}
+use Rattle.pt_history.specs.Records.{HasPartsRoom, Shows}
 
-pub room-still : {A : Type 0} (old new : Records A) (n : ℕ) → new ≡ old → HasRoom old n
-    → HasRoom new n
-room-still {A} old new n e h = subst (λ (r : Records A). HasRoom r n) (sym e) h
+pub room-still : {A : Type 0} (old new : Records A) (n : ℕ) → new ≡ old → HasPartsRoom old n
+    → HasPartsRoom new n
+room-still {A} old new n e h = subst (λ (r : Records A). HasPartsRoom r n) (sym e) h
 
 pub few-still : {A : Type 0} (old new : Records A) → new ≡ old
     → vec_len old.wholes ≤ 4294967295 → vec_len new.wholes ≤ 4294967295

@@ -4,7 +4,7 @@ use Rattle.std.proofs.Common.{vec_len, vec_capacity}
 use Rattle.std.specs.Prelude.{Vec}
 use Rattle.pt_hints.specs.declared.hints.Hints.{Hints}
 use Rattle.pt_history.specs.declared.records.Records.{Records}
-use Rattle.pt_history.specs.Records.{HasRoom, KeepsParts}
+use Rattle.pt_history.specs.Records.{HasPartsRoom, KeepsParts}
 
 -- the same elements, with at least as much memory
 pub record Widened {X A : Type 0} (old new : Vec X A) : Type 0 where
@@ -46,7 +46,7 @@ keeps-parts old new t l m w = record {
     moments = omega (arith, h.moments, m.len, m.capacity);
     wholes = omega (arith, h.wholes, w.len, w.capacity);
   };
-  few = w.len;
+  bounded = w.len;
 }
 
 pub keeps-after : {A : Type 0} (old mid new : Records A) → SameLists old mid
@@ -62,7 +62,7 @@ pub room-for : {A : Type 0} (r : Records A) (n : ℕ)
     → vec_len r.texts + 64 * n ≤ vec_capacity r.texts
     → vec_len r.limits + n ≤ vec_capacity r.limits
     → vec_len r.moments + n ≤ vec_capacity r.moments
-    → vec_len r.wholes + n ≤ vec_capacity r.wholes → HasRoom r n
+    → vec_len r.wholes + n ≤ vec_capacity r.wholes → HasPartsRoom r n
 room-for r n t l m w = record { texts = t; limits = l; moments = m; wholes = w }
 
 -- a growth for which there is room is not needed, and not refused

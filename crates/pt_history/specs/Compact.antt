@@ -58,9 +58,9 @@ forced_entry (YieldForced m) = YieldEntry m
 forced_entry (ExpireForced j) = ExpireEntry j
 
 -- the call of a word and a name
-abbrev pub spelled : Word → List ℕ → Call
-spelled (MutexInitWord kind robust) n = MutexInit n kind robust
-spelled (NamedWord verb) n = call_on verb n
+abbrev pub call_of_word : Word → List ℕ → Call
+call_of_word (MutexInitWord kind robust) n = MutexInit n kind robust
+call_of_word (NamedWord verb) n = call_on verb n
 
 -- the base from which numbers are counted in a history that begins at a place
 abbrev pub base_of : ℕ → ℕ
@@ -71,18 +71,18 @@ abbrev pub text_at : List ℕ → ℕ → ℕ → List ℕ
 text_at texts from count = take count (drop from texts)
 
 -- the outcome of an answer, or none if the call waits
-abbrev pub answered : Answer → Option Outcome
-answered Waits = None
-answered Done = Some DoneOutcome
-answered Serial = Some SerialOutcome
-answered Eperm = Some EpermOutcome
-answered Einval = Some EinvalOutcome
-answered Ebusy = Some EbusyOutcome
-answered Eagain = Some EagainOutcome
-answered Edeadlk = Some EdeadlkOutcome
-answered Etimedout = Some EtimedoutOutcome
-answered Eownerdead = Some EownerdeadOutcome
-answered Enotrecoverable = Some EnotrecoverableOutcome
+abbrev pub outcome_of_answer : Answer → Option Outcome
+outcome_of_answer Waits = None
+outcome_of_answer Done = Some DoneOutcome
+outcome_of_answer Serial = Some SerialOutcome
+outcome_of_answer Eperm = Some EpermOutcome
+outcome_of_answer Einval = Some EinvalOutcome
+outcome_of_answer Ebusy = Some EbusyOutcome
+outcome_of_answer Eagain = Some EagainOutcome
+outcome_of_answer Edeadlk = Some EdeadlkOutcome
+outcome_of_answer Etimedout = Some EtimedoutOutcome
+outcome_of_answer Eownerdead = Some EownerdeadOutcome
+outcome_of_answer Enotrecoverable = Some EnotrecoverableOutcome
 
 -- the call for a lock with a deadline, and perhaps a clock
 abbrev pub with_limit : LockKind → List ℕ → Timespec → Option Clock → Call
@@ -112,29 +112,31 @@ limit_at p l =
     (record { deadline = record { sec = 0; nsec = 0 }; clock = None })
 
 -- the entry that is read back from a stored one, by a base and the parts
-abbrev pub decoded : ℕ → Parts → Compact → Entry
-decoded b p (Join k c) = JoinEntry (b + c) k
-decoded b p (Named w a n c i) = CallEntry (b + c) (spelled w (text_at p.texts i n)) (answered a)
-decoded b p (Barrier a n c i k) =
-    CallEntry (b + c) (BarrierInit (text_at p.texts i n) k) (answered a)
-decoded b p (Timed k a n c i l) =
+abbrev pub read_compact : ℕ → Parts → Compact → Entry
+read_compact b p (Join k c) = JoinEntry (b + c) k
+read_compact b p (Named w a n c i) = CallEntry (b + c) (call_of_word w (text_at p.texts i n))
+    (outcome_of_answer a)
+read_compact b p (Barrier a n c i k) =
+    CallEntry (b + c) (BarrierInit (text_at p.texts i n) k) (outcome_of_answer a)
+read_compact b p (Timed k a n c i l) =
     CallEntry (b + c)
     (with_limit k (text_at p.texts i n) (limit_at p l).deadline (limit_at p l).clock)
-    (answered a)
-decoded b p (Wait a n m c i) =
-    CallEntry (b + c) (WaitCall (text_at p.texts i n) (text_at p.texts (i + n) m)) (answered a)
-decoded b p (TimedWait a n m c i l) =
+    (outcome_of_answer a)
+read_compact b p (Wait a n m c i) =
+    CallEntry (b + c) (WaitCall (text_at p.texts i n) (text_at p.texts (i + n) m))
+    (outcome_of_answer a)
+read_compact b p (TimedWait a n m c i l) =
     CallEntry (b + c)
     (wait_until (text_at p.texts i n) (text_at p.texts (i + n) m)
     (limit_at p l).deadline (limit_at p l).clock)
-    (answered a)
-decoded b p (Death c) = DeathEntry (b + c)
-decoded b p (Moment k i) = MomentEntry k (slice_index_or p.moments i 0)
-decoded b p (Grant x j) = GrantEntry (b + j) x
-decoded b p (Trip o) = TripEntry (b + o)
-decoded b p (Yield o) = YieldEntry (b + o)
-decoded b p (Expire j) = ExpireEntry (b + j)
-decoded b p (Whole i) = slice_index_or p.wholes i (TripEntry 0)
+    (outcome_of_answer a)
+read_compact b p (Death c) = DeathEntry (b + c)
+read_compact b p (Moment k i) = MomentEntry k (slice_index_or p.moments i 0)
+read_compact b p (Grant x j) = GrantEntry (b + j) x
+read_compact b p (Trip o) = TripEntry (b + o)
+read_compact b p (Yield o) = YieldEntry (b + o)
+read_compact b p (Expire j) = ExpireEntry (b + j)
+read_compact b p (Whole i) = slice_index_or p.wholes i (TripEntry 0)
 
 -- a name of this length begins at an index
 pub record IsText (texts : List ℕ) (from count : ℕ) : Type 0 where
@@ -168,6 +170,6 @@ IsStored p (Whole i) = i < length p.wholes
 IsStored p _ = Unit {0}
 
 -- the stored entry is read back as this one, whatever else is stored
-pub record ShowsAlone (b : ℕ) (c : Compact) (e : Entry) : Type 0 where
-  pub same : (p : Parts) → decoded b p c ≡ e
+pub record ShowsSingle (b : ℕ) (c : Compact) (e : Entry) : Type 0 where
+  pub same : (p : Parts) → read_compact b p c ≡ e
   pub stored : (p : Parts) → IsStored p c

@@ -6,7 +6,7 @@ use Rattle.std.specs.Prelude.{Vec}
 use Rattle.pt_model.specs.declared.entry.Entry.{Entry}
 use Rattle.pt_history.specs.declared.compact.Compact.{Compact}
 use Rattle.pt_history.specs.declared.records.Records.{Records}
-use Rattle.pt_history.specs.Compact.{Parts, IsText, AreTexts, text_at, decoded, IsStored}
+use Rattle.pt_history.specs.Compact.{Parts, IsText, AreTexts, text_at, read_compact, IsStored}
 
 -- parts without anything
 abbrev pub no_parts : Parts
@@ -23,8 +23,8 @@ parts_of r =
     }
 
 -- parts with more appended to them
-abbrev pub joined : Parts → Parts → Parts
-joined p q =
+abbrev pub join_parts : Parts → Parts → Parts
+join_parts p q =
     record {
       texts = p.texts ++ q.texts;
       limits = p.limits ++ q.limits;
@@ -35,11 +35,11 @@ joined p q =
 -- the parts only grew, at their ends
 pub record HasGrown (old new : Parts) : Type 0 where
   pub more : Parts
-  pub joined : new ≡ joined old more
+  pub joined : new ≡ join_parts old more
 
 -- there is room for what n more entries refer to, whatever they are: two names have 64 bytes at
 -- most
-pub record HasRoom {A : Type 0} (r : Records A) (n : ℕ) : Type 0 where
+pub record HasPartsRoom {A : Type 0} (r : Records A) (n : ℕ) : Type 0 where
   pub texts : vec_len r.texts + 64 * n ≤ vec_capacity r.texts
   pub limits : vec_len r.limits + n ≤ vec_capacity r.limits
   pub moments : vec_len r.moments + n ≤ vec_capacity r.moments
@@ -48,18 +48,18 @@ pub record HasRoom {A : Type 0} (r : Records A) (n : ℕ) : Type 0 where
 -- the parts are the same, and there is no less room
 pub record KeepsParts {A : Type 0} (old new : Records A) : Type 0 where
   pub same : parts_of new ≡ parts_of old
-  pub room : (n : ℕ) → HasRoom old n → HasRoom new n
-  pub few : vec_len new.wholes ≡ vec_len old.wholes
+  pub room : (n : ℕ) → HasPartsRoom old n → HasPartsRoom new n
+  pub bounded : vec_len new.wholes ≡ vec_len old.wholes
 
 -- the stored entry is read back as this one, everything that it refers to is stored, and the parts
 -- only grew, by one entry's room at most
 pub record Shows {A : Type 0} (b : ℕ) (e : Entry) (old new : Records A) (c : Compact)
     : Type 0 where
-  pub same : decoded b (parts_of new) c ≡ e
+  pub same : read_compact b (parts_of new) c ≡ e
   pub stored : IsStored (parts_of new) c
   pub grown : HasGrown (parts_of old) (parts_of new)
-  pub room : (n : ℕ) → HasRoom old (suc n) → HasRoom new n
-  pub few : vec_len new.wholes ≤ suc (vec_len old.wholes)
+  pub room : (n : ℕ) → HasPartsRoom old (suc n) → HasPartsRoom new n
+  pub bounded : vec_len new.wholes ≤ suc (vec_len old.wholes)
 
 -- this name lies at an index
 pub record LiesAt (texts name : List ℕ) (from : ℕ) : Type 0 where

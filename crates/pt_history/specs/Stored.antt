@@ -2,15 +2,15 @@
 use Rattle.std.specs.Prelude.{ℕ, ◌+◌, ◌≡◌, ◌≤◌, List, [], ◌∷◌, ◌++◌, ◌-◌, Option, Some, None, map}
 use Rattle.std.specs.Prelude.{length, vec_len, vec_capacity, Vec, ◌<◌}
 use Rattle.std.specs.List.{All}
-use Rattle.pt_types.specs.Limits.{most_places}
+use Rattle.pt_types.specs.Limits.{max_place}
 use Rattle.pt_model.specs.declared.entry.Entry.{Entry}
 use Rattle.pt_model.specs.declared.entry.Entry.TheVariants.{Call}
-use Rattle.pt_model.specs.StartRows.{StartRows, no_rows, reads_of}
+use Rattle.pt_model.specs.StartRows.{StartRows, empty_rows, start_of_rows}
 use Rattle.pt_history.specs.declared.compact.Compact.{Compact}
 use Rattle.pt_history.specs.declared.records.Records.{Records}
-use Rattle.pt_history.specs.Compact.{base_of, decoded, IsStored}
-use Rattle.pt_history.specs.Records.{parts_of, HasRoom}
-use Rattle.pt_model.specs.Histories.{History, behind, outer}
+use Rattle.pt_history.specs.Compact.{base_of, read_compact, IsStored}
+use Rattle.pt_history.specs.Records.{parts_of, HasPartsRoom}
+use Rattle.pt_model.specs.Histories.{History, history_since, outer}
 
 -- a stored history: the rows that it begins with, the entries since, their greatest number, and the
 -- number of further entries for which there is room
@@ -21,16 +21,16 @@ pub record Stored : Type 0 where
   pub room : ℕ
 
 -- a history without entries, before which there was nothing
-abbrev pub begun : ℕ → Stored
-begun limit = record { start = no_rows; entries = []; limit = limit; room = 0 }
+abbrev pub empty_store : ℕ → Stored
+empty_store limit = record { start = empty_rows; entries = []; limit = limit; room = 0 }
 
 -- a stored history with one more entry, in room that was made for it
-abbrev pub pushed : Entry → Stored → Stored
-pushed e s = record s { entries = s.entries ++ e ∷ []; room = s.room - 1 }
+abbrev pub stored_with : Entry → Stored → Stored
+stored_with e s = record s { entries = s.entries ++ e ∷ []; room = s.room - 1 }
 
 -- the history that is stored
-abbrev pub past_of : Stored → History
-past_of s = behind (reads_of s.start) s.entries
+abbrev pub stored_history : Stored → History
+stored_history s = history_since (start_of_rows s.start) s.entries
 
 -- the client of an entry, if the entry is a call
 abbrev pub caller_of : Entry → Option ℕ
@@ -47,31 +47,31 @@ caller_in (Some e) = caller_of e
 pub record IsWithin (at len room memory limit capacity : ℕ) : Type 0 where
   pub fits : len + room ≤ limit
   pub enough : room ≤ memory
-  pub held : len + memory ≤ capacity
-  pub places : at ≤ most_places
+  pub has_capacity : len + memory ≤ capacity
+  pub places : at ≤ max_place
 
 -- the count is the number of outer entries, and the Start has a place for each that it counts
 pub record IsCounted (start : StartRows) (entries : List Entry) (count : ℕ) : Type 0 where
   pub before : start.outer ≤ start.at
-  pub all : count ≡ outer (behind (reads_of start) entries)
+  pub all : count ≡ outer (history_since (start_of_rows start) entries)
 
 -- the entries that are read back from stored ones, in a history that begins at a place
 abbrev pub entries_of : {A : Type 0} → ℕ → Records A → List Compact → List Entry
-entries_of at records entries = map (decoded (base_of at) (parts_of records)) entries
+entries_of at records entries = map (read_compact (base_of at) (parts_of records)) entries
 
 -- everything that the stored entries refer to is stored, and there is room for this number of
 -- further entries
 pub record IsRecorded {A : Type 0} (records : Records A) (entries : List Compact)
     (more : ℕ) : Type 0 where
   pub stored : All (IsStored (parts_of records)) entries
-  pub room : HasRoom records more
-  pub few : vec_len records.wholes ≤ length entries
+  pub room : HasPartsRoom records more
+  pub bounded : vec_len records.wholes ≤ length entries
 
 -- there is room and memory for one more entry
 pub record CanAppend {A : Type 0} (entries : Vec Compact A) (room memory : ℕ) : Type 0 where
   pub some : 0 < room
   pub enough : room ≤ memory
-  pub held : vec_len entries + memory ≤ vec_capacity entries
+  pub has_capacity : vec_len entries + memory ≤ vec_capacity entries
 
 -- the stored entry is appended, in room and memory that there were
 pub record Appends {A : Type 0} (c : Compact) (old new : Vec Compact A)

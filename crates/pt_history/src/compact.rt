@@ -2,8 +2,9 @@
 
 ghost use Rattle.std.specs.Prelude.{◌≡◌, ◌+◌, ◌-◌, IfSome, if◌then◌else◌};
 ghost use Rattle.pt_model.specs.Histories.{is_forced};
-ghost use Rattle.pt_history.specs.Compact.{spelled, base_of, answered, with_limit, wait_until};
-ghost use Rattle.pt_history.specs.Compact.{ShowsAlone, forced_entry};
+ghost use Rattle.pt_history.specs.Compact.{call_of_word, base_of, outcome_of_answer, with_limit};
+ghost use Rattle.pt_history.specs.Compact.{wait_until};
+ghost use Rattle.pt_history.specs.Compact.{ShowsSingle, forced_entry};
 ghost use Rattle.pt_types.specs.declared.call.Call.TheVariants.{BarrierInit};
 
 use pt_model::Entry;
@@ -94,7 +95,7 @@ pub enum ForcedEntry {
 /// Returns the stored form of an answer. None is a call that waits.
 #[inline(always)]
 pub(crate) fn answer_of(outcome: Option<Outcome>) -> Answer
-    ensures { answered result ≡ outcome }
+    ensures { outcome_of_answer result ≡ outcome }
 {
     match outcome {
         None => Answer::Waits,
@@ -113,7 +114,7 @@ pub(crate) fn answer_of(outcome: Option<Outcome>) -> Answer
 
 /// Returns the outcome of an answer, or None if the call waits.
 pub(crate) fn outcome_of(answer: Answer) -> Option<Outcome>
-    ensures { result ≡ answered answer }
+    ensures { result ≡ outcome_of_answer answer }
 {
     match answer {
         Answer::Waits => None,
@@ -150,7 +151,7 @@ pub fn near(base: u64, place: u64) -> Option<u32>
 
 /// Returns the word and the name of a call that consists of these, or None for another call.
 pub(crate) fn named(call: &Call) -> Option<(Word, &Name)>
-    ensures { IfSome result (λ p. spelled p.0 p.1.now ≡ call.now) }
+    ensures { IfSome result (λ p. call_of_word p.0 p.1.now ≡ call.now) }
 {
     match call {
         Call::MutexInit(name, kind, robust) => Some((Word::MutexInit(*kind, *robust), name)),
@@ -163,7 +164,7 @@ pub(crate) fn named(call: &Call) -> Option<(Word, &Name)>
 
 /// Returns the call of a word and a name.
 pub(crate) fn call_of(word: Word, name: Name) -> Call
-    ensures { result ≡ spelled word name }
+    ensures { result ≡ call_of_word word name }
 {
     match word {
         Word::MutexInit(kind, robust) => Call::MutexInit(name, kind, robust),
@@ -278,7 +279,7 @@ pub(crate) fn entry_of(forced: &ForcedEntry) -> Entry
 
 /// Returns the stored form of a forced entry, or None if its number does not fit.
 pub(crate) fn stored_forced(base: u64, forced: &ForcedEntry) -> Option<Compact>
-    ensures { IfSome result (λ c. ShowsAlone base c (forced_entry forced.now)) }
+    ensures { IfSome result (λ c. ShowsSingle base c (forced_entry forced.now)) }
 {
     match forced {
         ForcedEntry::Grant(place, outcome) => Some(Compact::Grant(*outcome, near(base, *place)?)),
@@ -290,8 +291,8 @@ pub(crate) fn stored_forced(base: u64, forced: &ForcedEntry) -> Option<Compact>
 
 /// Returns the stored form of an entry that refers to nothing stored elsewhere. Returns None for
 /// other entries, or if a number does not fit.
-pub(crate) fn alone(base: u64, entry: &Entry) -> Option<Compact>
-    ensures { IfSome result (λ c. ShowsAlone base c entry.now) }
+pub(crate) fn single_entry(base: u64, entry: &Entry) -> Option<Compact>
+    ensures { IfSome result (λ c. ShowsSingle base c entry.now) }
 {
     match entry {
         Entry::Join(client, priority) => Some(Compact::Join(*priority, near(base, client.0)?)),

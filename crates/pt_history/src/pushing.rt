@@ -7,7 +7,7 @@ use std::alloc::Allocator;
 
 impl<A: Allocator + Copy> History<A> {
     ghost use Rattle.std.specs.Prelude.{◌≡◌, ◌-◌, ◌<◌, [], ◌∷◌, ◌++◌, if◌then◌else◌};
-    ghost use Rattle.pt_history.specs.Stored.{pushed};
+    ghost use Rattle.pt_history.specs.Stored.{stored_with};
     ghost use Rattle.pt_model.specs.declared.entry.Entry.TheVariants.{Call as CallEntry};
     ghost use Rattle.pt_model.specs.declared.entry.Entry.TheVariants.{Grant as GrantEntry};
     ghost use Rattle.pt_history.specs.Compact.{forced_entry};
@@ -15,13 +15,18 @@ impl<A: Allocator + Copy> History<A> {
     // Appends the entry of a call with one name, if a hint finds that name and the client's number
     // fits, and reports whether it did.
     #[inline(always)]
-    fn push_named_again(&mut self, client: ClientId, call: &Call, outcome: Option<Outcome>) -> bool
+    fn push_interned_name(
+        &mut self,
+        client: ClientId,
+        call: &Call,
+        outcome: Option<Outcome>,
+    ) -> bool
         requires { 0 < self.old.room }
         ensures { self.new
-            ≡ if result then pushed (CallEntry client call.now outcome) self.old else self.old }
+            ≡ if result then stored_with (CallEntry client call.now outcome) self.old else self.old }
     {
-        let again = self.records.named_again(self.base, client, call, outcome);
-        let Some(compact) = again else {
+        let interned = self.records.interned_name(self.base, client, call, outcome);
+        let Some(compact) = interned else {
             return false;
         };
         self.outer += 1;
@@ -31,13 +36,18 @@ impl<A: Allocator + Copy> History<A> {
 
     // Appends the entry of a call that makes a mutex or a barrier, if a hint finds its name and its
     // numbers fit, and reports whether it did.
-    fn push_made_again(&mut self, client: ClientId, call: &Call, outcome: Option<Outcome>) -> bool
+    fn push_interned_init(
+        &mut self,
+        client: ClientId,
+        call: &Call,
+        outcome: Option<Outcome>,
+    ) -> bool
         requires { 0 < self.old.room }
         ensures { self.new
-            ≡ if result then pushed (CallEntry client call.now outcome) self.old else self.old }
+            ≡ if result then stored_with (CallEntry client call.now outcome) self.old else self.old }
     {
-        let again = self.records.made_again(self.base, client, call, outcome);
-        let Some(compact) = again else {
+        let interned = self.records.interned_init(self.base, client, call, outcome);
+        let Some(compact) = interned else {
             return false;
         };
         self.outer += 1;
@@ -48,13 +58,18 @@ impl<A: Allocator + Copy> History<A> {
     // Appends the entry of a wait without a deadline, if a hint finds both names and the client's
     // number fits, and reports whether it did.
     #[inline(always)]
-    fn push_wait_again(&mut self, client: ClientId, call: &Call, outcome: Option<Outcome>) -> bool
+    fn push_interned_wait(
+        &mut self,
+        client: ClientId,
+        call: &Call,
+        outcome: Option<Outcome>,
+    ) -> bool
         requires { 0 < self.old.room }
         ensures { self.new
-            ≡ if result then pushed (CallEntry client call.now outcome) self.old else self.old }
+            ≡ if result then stored_with (CallEntry client call.now outcome) self.old else self.old }
     {
-        let again = self.records.wait_again(self.base, client, call, outcome);
-        let Some(compact) = again else {
+        let interned = self.records.interned_wait(self.base, client, call, outcome);
+        let Some(compact) = interned else {
             return false;
         };
         self.outer += 1;
@@ -67,7 +82,7 @@ impl<A: Allocator + Copy> History<A> {
     fn push_timed(&mut self, client: ClientId, call: &Call, outcome: Option<Outcome>) -> bool
         requires { 0 < self.old.room }
         ensures { self.new
-            ≡ if result then pushed (CallEntry client call.now outcome) self.old else self.old }
+            ≡ if result then stored_with (CallEntry client call.now outcome) self.old else self.old }
     {
         let stored = self
             .records
@@ -85,7 +100,7 @@ impl<A: Allocator + Copy> History<A> {
     #[inline(never)]
     fn push_other_call(&mut self, client: ClientId, call: &Call, outcome: Option<Outcome>)
         requires { 0 < self.old.room }
-        ensures { self.new ≡ pushed (CallEntry client call.now outcome) self.old }
+        ensures { self.new ≡ stored_with (CallEntry client call.now outcome) self.old }
     {
         self.outer += 1;
         let compact = self
@@ -98,7 +113,7 @@ impl<A: Allocator + Copy> History<A> {
     #[inline(never)]
     fn push_any_call(&mut self, client: ClientId, call: &Call, outcome: Option<Outcome>)
         requires { 0 < self.old.room }
-        ensures { self.new ≡ pushed (CallEntry client call.now outcome) self.old }
+        ensures { self.new ≡ stored_with (CallEntry client call.now outcome) self.old }
     {
         if !self.push_timed(client, call, outcome) {
             self.push_other_call(client, call, outcome);
@@ -116,7 +131,7 @@ impl<A: Allocator + Copy> History<A> {
               room = self.old.room - 1;
             } }
     {
-        if !self.push_named_again(client, call, outcome) {
+        if !self.push_interned_name(client, call, outcome) {
             self.push_any_call(client, call, outcome);
         }
     }
@@ -131,13 +146,13 @@ impl<A: Allocator + Copy> History<A> {
               room = self.old.room - 1;
             } }
     {
-        if !self.push_wait_again(client, call, outcome) {
+        if !self.push_interned_wait(client, call, outcome) {
             self.push_any_call(client, call, outcome);
         }
     }
 
     // Does what `push_named` does. A call that makes a mutex or a barrier takes the fewest steps.
-    fn push_made(&mut self, client: ClientId, call: &Call, outcome: Option<Outcome>)
+    fn push_created(&mut self, client: ClientId, call: &Call, outcome: Option<Outcome>)
         requires { 0 < self.old.room }
         ensures { self.new
             ≡ record self.old {
@@ -145,7 +160,7 @@ impl<A: Allocator + Copy> History<A> {
               room = self.old.room - 1;
             } }
     {
-        if !self.push_made_again(client, call, outcome) {
+        if !self.push_interned_init(client, call, outcome) {
             self.push_any_call(client, call, outcome);
         }
     }
@@ -162,7 +177,7 @@ impl<A: Allocator + Copy> History<A> {
     {
         match call {
             Call::Wait(..) => self.push_wait(client, call, outcome),
-            Call::MutexInit(..) | Call::BarrierInit(..) => self.push_made(client, call, outcome),
+            Call::MutexInit(..) | Call::BarrierInit(..) => self.push_created(client, call, outcome),
             _ => self.push_named(client, call, outcome),
         }
     }

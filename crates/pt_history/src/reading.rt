@@ -1,8 +1,9 @@
 //! Entries as they are read back from their stored form.
 
 ghost use Rattle.std.specs.Prelude.{◌≡◌, ◌+◌, ◌<◌, ◌≤◌, length};
-ghost use Rattle.pt_types.specs.Limits.{most_places};
-ghost use Rattle.pt_history.specs.Compact.{decoded, answered, limit_at, HasLimit, HaveLimit};
+ghost use Rattle.pt_types.specs.Limits.{max_place};
+ghost use Rattle.pt_history.specs.Compact.{read_compact, outcome_of_answer, limit_at, HasLimit};
+ghost use Rattle.pt_history.specs.Compact.{HaveLimit};
 ghost use Rattle.pt_history.specs.Compact.{IsStored, IsText, AreTexts, text_at, with_limit};
 ghost use Rattle.pt_history.specs.Compact.{wait_until};
 ghost use Rattle.pt_history.specs.Records.{parts_of};
@@ -19,8 +20,8 @@ use std::alloc::Allocator;
 
 // Returns the entry of a call.
 fn call_entry(base: u64, client: u32, call: Call, answer: Answer) -> Entry
-    requires { base ≤ most_places }
-    ensures { result ≡ CallEntry (base + client) call (answered answer) }
+    requires { base ≤ max_place }
+    ensures { result ≡ CallEntry (base + client) call (outcome_of_answer answer) }
 {
     Entry::Call(ClientId(base + client as u64), call, outcome_of(answer))
 }
@@ -99,9 +100,9 @@ impl<A: Allocator + Copy> Records<A> {
 
     /// Returns the client of a stored entry, if the entry is a call. It copies no name.
     pub(crate) fn caller(&self, base: u64, compact: Compact) -> Option<ClientId>
-        requires base { base ≤ most_places }
+        requires base { base ≤ max_place }
         requires stored { IsStored (parts_of self.now) compact }
-        ensures { result ≡ caller_of (decoded base (parts_of self.now) compact) }
+        ensures { result ≡ caller_of (read_compact base (parts_of self.now) compact) }
     {
         match compact {
             Compact::Named(_, _, _, client, _)
@@ -116,9 +117,9 @@ impl<A: Allocator + Copy> Records<A> {
 
     /// Returns a stored entry as it was pushed.
     pub(crate) fn entry(&self, base: u64, compact: Compact) -> Entry
-        requires base { base ≤ most_places }
+        requires base { base ≤ max_place }
         requires stored { IsStored (parts_of self.now) compact }
-        ensures { result ≡ decoded base (parts_of self.now) compact }
+        ensures { result ≡ read_compact base (parts_of self.now) compact }
     {
         match compact {
             Compact::Join(priority, client) => {

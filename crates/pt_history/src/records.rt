@@ -2,7 +2,7 @@
 //! few entries whose numbers do not fit in 32 bits.
 
 ghost use Rattle.std.specs.Prelude.{ℕ, IfOk, IsOk, ◌≡◌, ◌≤◌, OnOk, vec_len};
-ghost use Rattle.pt_history.specs.Records.{no_parts, parts_of, HasRoom, KeepsParts};
+ghost use Rattle.pt_history.specs.Records.{no_parts, parts_of, HasPartsRoom, KeepsParts};
 
 use crate::compact::TimeLimit;
 use crate::memory::take_memory;
@@ -12,7 +12,7 @@ use pt_types::Moment;
 use std::alloc::{AllocError, Allocator};
 
 /// The greatest size in bytes of the texts of names that stay when the entries are dropped.
-const MOST_KEPT: usize = 262_144;
+const MAX_TEXTS: usize = 262_144;
 
 /// The parts that stored entries refer to by index.
 pub(crate) struct Records<A: Allocator + Copy> {
@@ -40,8 +40,8 @@ impl<A: Allocator + Copy> Records<A> {
     /// Creates empty records, which allocates nothing.
     pub(crate) fn new(alloc: A) -> Records<A>
         ensures parts { parts_of result ≡ no_parts }
-        ensures room { HasRoom result 0 }
-        ensures few { vec_len result.wholes ≡ 0 }
+        ensures room { HasPartsRoom result 0 }
+        ensures within { vec_len result.wholes ≡ 0 }
     {
         Records {
             texts: Vec::new(alloc),
@@ -55,11 +55,11 @@ impl<A: Allocator + Copy> Records<A> {
     /// Creates records with copies of the texts of others and their hints, if those texts are not
     /// too many, else empty records. A name with a text there need not be stored again.
     pub(crate) fn with_texts_of(other: &Records<A>, alloc: A) -> Result<Records<A>, AllocError>
-        ensures room { IfOk result (λ r. HasRoom r 0) }
-        ensures few { IfOk result (λ r. vec_len r.wholes ≡ 0) }
+        ensures room { IfOk result (λ r. HasPartsRoom r 0) }
+        ensures within { IfOk result (λ r. vec_len r.wholes ≡ 0) }
     {
         let mut records = Records::new(alloc);
-        if other.texts.len() <= MOST_KEPT {
+        if other.texts.len() <= MAX_TEXTS {
             records.texts.extend_from_slice(&other.texts)?;
             records.hints = other.hints.copied(alloc)?;
         }
@@ -69,13 +69,13 @@ impl<A: Allocator + Copy> Records<A> {
     /// Makes room for what `room` more entries refer to, whatever they are.
     pub(crate) fn reserve(&mut self, room: u64) -> Result<(), AllocError>
         requires { room ≤ 4294967295 }
-        ensures ok { OnOk result (HasRoom self.new room) }
-        ensures enough { HasRoom self.old room → IsOk result }
+        ensures ok { OnOk result (HasPartsRoom self.new room) }
+        ensures succeeds_if { HasPartsRoom self.old room → IsOk result }
         ensures parts { KeepsParts self.old self.new }
     {
         let many = room as usize;
         if self.texts.capacity() - self.texts.len() < 64 * many {
-            self.hints.grow_to_most()?;
+            self.hints.grow_to_max()?;
         }
         self.texts.reserve(64 * many)?;
         self.limits.reserve(many)?;
@@ -86,10 +86,10 @@ impl<A: Allocator + Copy> Records<A> {
     /// Removes all that no entry refers to any more, except the texts of names if they are not too
     /// many: a name with a text there need not be stored again. The memory stays.
     pub(crate) fn clear(&mut self)
-        ensures room { (n : ℕ) → HasRoom self.old n → HasRoom self.new n }
-        ensures few { vec_len self.new.wholes ≡ 0 }
+        ensures room { (n : ℕ) → HasPartsRoom self.old n → HasPartsRoom self.new n }
+        ensures within { vec_len self.new.wholes ≡ 0 }
     {
-        if self.texts.len() > MOST_KEPT {
+        if self.texts.len() > MAX_TEXTS {
             self.texts.clear();
         }
         self.limits.clear();

@@ -1,5 +1,5 @@
 ghost use Rattle.std.specs.Prelude.{◌≡◌, ◌+◌, ◌≤◌, vec_len, vec_capacity, OnOk};
-ghost use Rattle.pt_history.specs.Records.{HasRoom, KeepsParts};
+ghost use Rattle.pt_history.specs.Records.{HasPartsRoom, KeepsParts};
 ghost use Rattle.pt_history.specs.Stored.{Appends, CanAppend};
 
 use crate::compact::{Compact, base, outer_in};
@@ -29,7 +29,7 @@ pub struct History<A: Allocator + Copy = Global> {
 const BATCH: u64 = 64;
 
 /// The greatest number of entries for which memory is allocated at once.
-const MOST_AT_ONCE: u64 = 4_294_967_295;
+const MAX_AT_ONCE: u64 = 4_294_967_295;
 
 // Allocates memory for `many` more entries, whatever they are.
 fn grow<A: Allocator + Copy>(
@@ -42,8 +42,8 @@ fn grow<A: Allocator + Copy>(
     ensures len { vec_len entries.new ≡ vec_len entries.old }
     ensures capacity { vec_capacity entries.old ≤ vec_capacity entries.new }
     ensures parts { KeepsParts records.old records.new }
-    ensures made { OnOk result (vec_len entries.old + many ≤ vec_capacity entries.new) }
-    ensures room { OnOk result (HasRoom records.new many) }
+    ensures has_room { OnOk result (vec_len entries.old + many ≤ vec_capacity entries.new) }
+    ensures room { OnOk result (HasPartsRoom records.new many) }
 {
     entries.reserve(many as usize)?;
     records.reserve(many)
@@ -68,13 +68,13 @@ pub(crate) fn append<A: Allocator + Copy>(
 impl<A: Allocator + Copy> Model for History<A> {
     ghost use Rattle.pt_history.specs.Stored.{Stored, IsWithin, IsCounted, IsRecorded, entries_of};
     ghost use Rattle.std.specs.Prelude.{◌≡◌, ◌+◌, ◌≤◌, vec_len, vec_capacity};
-    ghost use Rattle.pt_model.specs.StartRows.{rows_of};
+    ghost use Rattle.pt_model.specs.StartRows.{rows_of_start};
     ghost use Rattle.pt_history.specs.Compact.{base_of};
 
     ghost Value = { Stored };
 
     ghost view = { λ h. record {
-      start = rows_of h.start;
+      start = rows_of_start h.start;
       entries = entries_of h.start.at h.records h.entries.items;
       limit = h.limit;
       room = h.room;
@@ -82,7 +82,8 @@ impl<A: Allocator + Copy> Model for History<A> {
 
     ghost invariant = { λ h.
         IsWithin h.start.at (vec_len h.entries) h.room h.memory h.limit (vec_capacity h.entries)
-        × IsCounted (rows_of h.start) (entries_of h.start.at h.records h.entries.items) h.outer
+        × IsCounted (rows_of_start h.start)
+        (entries_of h.start.at h.records h.entries.items) h.outer
         × IsRecorded h.records h.entries.items h.memory
         × (h.base ≡ base_of h.start.at) };
 }
@@ -107,17 +108,18 @@ impl<A: Allocator + Copy> History<A> {
     ghost use Rattle.std.specs.Prelude.{◌≡◌, ◌↔◌, ◌+◌, ◌-◌, ◌<◌, ◌≤◌, [], ◌∷◌, ◌++◌, length};
     ghost use Rattle.std.specs.Prelude.{slice_get, vec_len, None, IsOk, IfOk, OnOk, OnErr, IfErr};
     ghost use Rattle.std.specs.Prelude.{◌≢◌};
-    ghost use Rattle.pt_types.specs.Limits.{most_places};
-    ghost use Rattle.pt_model.specs.StartRows.{rows_of};
-    ghost use Rattle.pt_history.specs.Records.{HasRoom};
-    ghost use Rattle.pt_history.specs.Stored.{Stored, begun, caller_in, past_of, pushed};
+    ghost use Rattle.pt_types.specs.Limits.{max_place};
+    ghost use Rattle.pt_model.specs.StartRows.{rows_of_start};
+    ghost use Rattle.pt_history.specs.Records.{HasPartsRoom};
+    ghost use Rattle.pt_history.specs.Stored.{Stored, empty_store, caller_in, stored_history};
+    ghost use Rattle.pt_history.specs.Stored.{stored_with};
     ghost use Rattle.pt_model.specs.Histories.{outer};
 
     // Creates an empty history of at most `limit` entries, with these records.
     fn begin(alloc: A, limit: u32, records: Records<A>) -> History<A>
-        requires room { HasRoom records 0 }
-        requires few { vec_len records.wholes ≡ 0 }
-        ensures { result ≡ begun limit }
+        requires room { HasPartsRoom records 0 }
+        requires within { vec_len records.wholes ≡ 0 }
+        ensures { result ≡ empty_store limit }
     {
         History {
             start: Start::new(alloc),
@@ -133,7 +135,7 @@ impl<A: Allocator + Copy> History<A> {
 
     /// Creates an empty history of at most `limit` entries, which allocates nothing.
     pub fn with_limit(alloc: A, limit: u32) -> History<A>
-        ensures { result ≡ begun limit }
+        ensures { result ≡ empty_store limit }
     {
         History::begin(alloc, limit, Records::new(alloc))
     }
@@ -141,7 +143,7 @@ impl<A: Allocator + Copy> History<A> {
     /// Creates an empty history with the same limit, for the entries after a seal. It copies the
     /// texts of names, if they are not too many. Returns ENOMEM if that growth is refused.
     pub fn successor(&self, alloc: A) -> Result<History<A>, Refusal>
-        ensures ok { IfOk result (λ h. h ≡ begun self.now.limit) }
+        ensures ok { IfOk result (λ h. h ≡ empty_store self.now.limit) }
         ensures err { IfErr result (λ r. r ≡ Refusal.Enomem) }
     {
         let Ok(records) = Records::with_texts_of(&self.records, alloc) else {
@@ -157,10 +159,10 @@ impl<A: Allocator + Copy> History<A> {
     fn grow_for(&mut self, room: u64, memory: u64) -> Result<(), Refusal>
         requires within { length self.old.entries + room ≤ self.old.limit }
         requires enough { room ≤ memory }
-        requires small { memory ≤ 4294967295 }
+        requires bounded { memory ≤ 4294967295 }
         ensures ok { OnOk result (self.new ≡ record self.old { room = room }) }
-        ensures err { OnErr result (self.new ≡ self.old) }
-        ensures memory { IfErr result (λ r. r ≡ Refusal.Enomem) }
+        ensures unchanged { OnErr result (self.new ≡ self.old) }
+        ensures err { IfErr result (λ r. r ≡ Refusal.Enomem) }
     {
         if grow(&mut self.entries, &mut self.records, memory).is_err() {
             return Err(Refusal::Enomem);
@@ -177,15 +179,15 @@ impl<A: Allocator + Copy> History<A> {
         ensures ok { OnOk result (self.new ≡ record self.old { room = room }) }
         ensures full { (result ≡ Err Refusal.Full)
             ↔ (self.old.limit < length self.old.entries + room) }
-        ensures err { OnErr result (self.new ≡ self.old) }
-        ensures memory { IfErr result (λ r. r ≢ Refusal.Full → r ≡ Refusal.Enomem) }
-        ensures enough { room ≤ self.old.room → IsOk result }
+        ensures unchanged { OnErr result (self.new ≡ self.old) }
+        ensures err { IfErr result (λ r. r ≢ Refusal.Full → r ≡ Refusal.Enomem) }
+        ensures succeeds_if { room ≤ self.old.room → IsOk result }
     {
         if room > self.limit as u64 - self.entries.len() as u64 {
             return Err(Refusal::Full);
         }
         if room > self.memory {
-            return self.grow_for(room, (room + BATCH).min(MOST_AT_ONCE));
+            return self.grow_for(room, (room + BATCH).min(MAX_AT_ONCE));
         }
         self.room = room;
         Ok(())
@@ -207,7 +209,7 @@ impl<A: Allocator + Copy> History<A> {
     // Appends a borrowed entry, in room that was made for it. This allocates nothing.
     fn push_borrowed(&mut self, entry: &Entry)
         requires { 0 < self.old.room }
-        ensures { self.new ≡ pushed entry.now self.old }
+        ensures { self.new ≡ stored_with entry.now self.old }
     {
         self.outer += outer_in(entry);
         let compact = self.records.store(self.base, entry);
@@ -217,9 +219,9 @@ impl<A: Allocator + Copy> History<A> {
     /// Drops the entries and begins anew with this Start. The room stays, and so does the memory.
     /// This allocates nothing.
     pub fn seal(&mut self, start: Start<A>)
-        requires places { start.at ≤ most_places }
+        requires places { start.at ≤ max_place }
         requires counted { start.outer ≤ start.at }
-        ensures { self.new ≡ record self.old { start = rows_of start; entries = [] } }
+        ensures { self.new ≡ record self.old { start = rows_of_start start; entries = [] } }
     {
         self.outer = start.outer;
         self.base = base(start.at);
@@ -249,14 +251,14 @@ impl<A: Allocator + Copy> History<A> {
 
     /// Returns the Start of the history.
     pub fn start(&self) -> &Start<A>
-        ensures { rows_of result.now ≡ self.now.start }
+        ensures { rows_of_start result.now ≡ self.now.start }
     {
         &self.start
     }
 
     /// Returns the number of entries since the Start.
-    pub fn held(&self) -> u64
-        ensures held { result ≡ length self.now.entries }
+    pub fn entry_count(&self) -> u64
+        ensures value { result ≡ length self.now.entries }
         ensures within { result ≤ self.now.limit }
     {
         self.entries.len() as u64
@@ -271,7 +273,7 @@ impl<A: Allocator + Copy> History<A> {
 
     /// Returns the number of outer entries: those since the Start, and those that the Start counts.
     pub fn outer(&self) -> u64
-        ensures { result ≡ outer (past_of self.now) }
+        ensures { result ≡ outer (stored_history self.now) }
     {
         self.outer
     }

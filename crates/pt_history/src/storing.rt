@@ -1,13 +1,13 @@
 //! Entries as they are turned into their stored form.
 
 ghost use Rattle.std.specs.Prelude.{◌≡◌, ◌+◌, ◌<◌, ◌≤◌, None, IfSome, vec_len};
-ghost use Rattle.pt_history.specs.Compact.{answered, decoded, forced_entry};
-ghost use Rattle.pt_history.specs.Records.{HasRoom, Shows, ShowsIfSome};
+ghost use Rattle.pt_history.specs.Compact.{outcome_of_answer, read_compact, forced_entry};
+ghost use Rattle.pt_history.specs.Records.{HasPartsRoom, Shows, ShowsIfSome};
 ghost use Rattle.pt_model.specs.declared.entry.Entry.TheVariants.{Call as CallEntry};
 ghost use Rattle.pt_model.specs.declared.entry.Entry.TheVariants.{Moment as MomentEntry};
 
 use crate::compact::{
-    Answer, Compact, ForcedEntry, Word, alone, answer_of, barrier, entry_of, named, near,
+    Answer, Compact, ForcedEntry, Word, answer_of, barrier, entry_of, named, near, single_entry,
     stored_forced, timed, timed_wait,
 };
 use crate::reading::copied;
@@ -26,8 +26,8 @@ impl<A: Allocator + Copy> Records<A> {
         call: &Call,
         answer: Answer,
     ) -> Option<Compact>
-        requires { HasRoom self.old 1 }
-        ensures { ShowsIfSome base (CallEntry (base + client) call.now (answered answer))
+        requires { HasPartsRoom self.old 1 }
+        ensures { ShowsIfSome base (CallEntry (base + client) call.now (outcome_of_answer answer))
             self.old self.new result }
     {
         let (word, name) = named(call)?;
@@ -44,8 +44,8 @@ impl<A: Allocator + Copy> Records<A> {
         call: &Call,
         answer: Answer,
     ) -> Option<Compact>
-        requires { HasRoom self.old 1 }
-        ensures { ShowsIfSome base (CallEntry (base + client) call.now (answered answer))
+        requires { HasPartsRoom self.old 1 }
+        ensures { ShowsIfSome base (CallEntry (base + client) call.now (outcome_of_answer answer))
             self.old self.new result }
     {
         let (name, count) = barrier(call)?;
@@ -63,8 +63,8 @@ impl<A: Allocator + Copy> Records<A> {
         call: &Call,
         answer: Answer,
     ) -> Option<Compact>
-        requires { HasRoom self.old 1 }
-        ensures { ShowsIfSome base (CallEntry (base + client) call.now (answered answer))
+        requires { HasPartsRoom self.old 1 }
+        ensures { ShowsIfSome base (CallEntry (base + client) call.now (outcome_of_answer answer))
             self.old self.new result }
     {
         let Some((kind, name, limit)) = timed(call) else {
@@ -79,8 +79,8 @@ impl<A: Allocator + Copy> Records<A> {
     // Stores what a wait without a deadline refers to, and returns its stored form, if its numbers
     // fit.
     fn store_wait(&mut self, base: u64, client: u32, call: &Call, answer: Answer) -> Option<Compact>
-        requires { HasRoom self.old 1 }
-        ensures { ShowsIfSome base (CallEntry (base + client) call.now (answered answer))
+        requires { HasPartsRoom self.old 1 }
+        ensures { ShowsIfSome base (CallEntry (base + client) call.now (outcome_of_answer answer))
             self.old self.new result }
     {
         let Call::Wait(cond, mutex) = call else {
@@ -99,8 +99,8 @@ impl<A: Allocator + Copy> Records<A> {
         call: &Call,
         answer: Answer,
     ) -> Option<Compact>
-        requires { HasRoom self.old 1 }
-        ensures { ShowsIfSome base (CallEntry (base + client) call.now (answered answer))
+        requires { HasPartsRoom self.old 1 }
+        ensures { ShowsIfSome base (CallEntry (base + client) call.now (outcome_of_answer answer))
             self.old self.new result }
     {
         let Some((cond, mutex, limit)) = timed_wait(call) else {
@@ -114,8 +114,8 @@ impl<A: Allocator + Copy> Records<A> {
 
     // Stores what any call refers to, and returns its stored form, if its numbers fit.
     fn store_call(&mut self, base: u64, client: u32, call: &Call, answer: Answer) -> Option<Compact>
-        requires { HasRoom self.old 1 }
-        ensures { ShowsIfSome base (CallEntry (base + client) call.now (answered answer))
+        requires { HasPartsRoom self.old 1 }
+        ensures { ShowsIfSome base (CallEntry (base + client) call.now (outcome_of_answer answer))
             self.old self.new result }
     {
         match call {
@@ -144,7 +144,7 @@ impl<A: Allocator + Copy> Records<A> {
         call: &Call,
         outcome: Option<Outcome>,
     ) -> Option<Compact>
-        requires { HasRoom self.old 1 }
+        requires { HasPartsRoom self.old 1 }
         ensures { ShowsIfSome base (CallEntry client call.now outcome) self.old self.new result }
     {
         let client = near(base, client.0)?;
@@ -160,7 +160,7 @@ impl<A: Allocator + Copy> Records<A> {
         call: &Call,
         outcome: Option<Outcome>,
     ) -> Option<Compact>
-        requires { HasRoom self.old 1 }
+        requires { HasPartsRoom self.old 1 }
         ensures { ShowsIfSome base (CallEntry client call.now outcome) self.old self.new result }
     {
         let client = near(base, client.0)?;
@@ -170,7 +170,7 @@ impl<A: Allocator + Copy> Records<A> {
     /// Returns the stored form of a call with one name, if a hint finds that name and the client's
     /// number fits.
     #[inline(always)]
-    pub(crate) fn named_again(
+    pub(crate) fn interned_name(
         &self,
         base: u64,
         client: ClientId,
@@ -186,8 +186,8 @@ impl<A: Allocator + Copy> Records<A> {
         Some(Compact::Named(Word::Named(verb), answer_of(outcome), length, client, from))
     }
 
-    // Does what `named_again` does, also for a call that makes a mutex.
-    fn word_again(
+    // Does what `interned_name` does, also for a call that makes a mutex.
+    fn interned_word(
         &self,
         base: u64,
         client: ClientId,
@@ -205,7 +205,7 @@ impl<A: Allocator + Copy> Records<A> {
 
     // Returns the stored form of a call that makes a barrier, if a hint finds its name and its
     // numbers fit.
-    fn barrier_again(
+    fn interned_barrier(
         &self,
         base: u64,
         client: ClientId,
@@ -223,7 +223,7 @@ impl<A: Allocator + Copy> Records<A> {
 
     /// Returns the stored form of a call that makes a mutex or a barrier, if a hint finds its name
     /// and its numbers fit.
-    pub(crate) fn made_again(
+    pub(crate) fn interned_init(
         &self,
         base: u64,
         client: ClientId,
@@ -233,15 +233,15 @@ impl<A: Allocator + Copy> Records<A> {
         ensures { ShowsIfSome base (CallEntry client call.now outcome) self.now self.now result }
     {
         match call {
-            Call::BarrierInit(..) => self.barrier_again(base, client, call, outcome),
-            _ => self.word_again(base, client, call, outcome),
+            Call::BarrierInit(..) => self.interned_barrier(base, client, call, outcome),
+            _ => self.interned_word(base, client, call, outcome),
         }
     }
 
     /// Returns the stored form of a wait without a deadline, if a hint finds both names and the
     /// client's number fits.
     #[inline(always)]
-    pub(crate) fn wait_again(
+    pub(crate) fn interned_wait(
         &self,
         base: u64,
         client: ClientId,
@@ -260,7 +260,7 @@ impl<A: Allocator + Copy> Records<A> {
 
     // Stores a reading of a clock, and returns the stored form of its entry, if its index fits.
     fn store_moment(&mut self, base: u64, clock: Clock, moment: Moment) -> Option<Compact>
-        requires { HasRoom self.old 1 }
+        requires { HasPartsRoom self.old 1 }
         ensures { ShowsIfSome base (MomentEntry clock moment) self.old self.new result }
     {
         let index = short(self.moments.len())?;
@@ -270,7 +270,7 @@ impl<A: Allocator + Copy> Records<A> {
 
     // Stores what an entry refers to, and returns its stored form, if its numbers fit.
     fn store_short(&mut self, base: u64, entry: &Entry) -> Option<Compact>
-        requires { HasRoom self.old 1 }
+        requires { HasPartsRoom self.old 1 }
         ensures { ShowsIfSome base entry.now self.old self.new result }
     {
         match entry {
@@ -278,14 +278,14 @@ impl<A: Allocator + Copy> Records<A> {
                 self.store_short_call(base, *client, call, *outcome)
             }
             Entry::Moment(clock, moment) => self.store_moment(base, *clock, *moment),
-            _ => alone(base, entry),
+            _ => single_entry(base, entry),
         }
     }
 
     // Stores an entry whole, and returns its stored form.
     fn store_whole(&mut self, base: u64, entry: Entry) -> Compact
-        requires room { HasRoom self.old 1 }
-        requires few { vec_len self.old.wholes ≤ 4294967295 }
+        requires room { HasPartsRoom self.old 1 }
+        requires within { vec_len self.old.wholes ≤ 4294967295 }
         ensures { Shows base entry self.old self.new result }
     {
         let index = self.wholes.len() as u32;
@@ -298,8 +298,8 @@ impl<A: Allocator + Copy> Records<A> {
     #[cold]
     #[inline(never)]
     fn store_copy(&mut self, base: u64, entry: &Entry) -> Compact
-        requires room { HasRoom self.old 1 }
-        requires few { vec_len self.old.wholes ≤ 4294967295 }
+        requires room { HasPartsRoom self.old 1 }
+        requires within { vec_len self.old.wholes ≤ 4294967295 }
         ensures { Shows base entry.now self.old self.new result }
     {
         self.store_whole(base, copied(entry))
@@ -316,8 +316,8 @@ impl<A: Allocator + Copy> Records<A> {
         call: &Call,
         outcome: Option<Outcome>,
     ) -> Compact
-        requires room { HasRoom self.old 1 }
-        requires few { vec_len self.old.wholes ≤ 4294967295 }
+        requires room { HasPartsRoom self.old 1 }
+        requires within { vec_len self.old.wholes ≤ 4294967295 }
         ensures { Shows base (CallEntry client call.now outcome) self.old self.new result }
     {
         self.store_whole(base, Entry::Call(client, call.copied(), outcome))
@@ -328,8 +328,8 @@ impl<A: Allocator + Copy> Records<A> {
     #[cold]
     #[inline(never)]
     fn store_whole_forced(&mut self, base: u64, forced: ForcedEntry) -> Compact
-        requires room { HasRoom self.old 1 }
-        requires few { vec_len self.old.wholes ≤ 4294967295 }
+        requires room { HasPartsRoom self.old 1 }
+        requires within { vec_len self.old.wholes ≤ 4294967295 }
         ensures { Shows base (forced_entry forced) self.old self.new result }
     {
         self.store_whole(base, entry_of(&forced))
@@ -337,7 +337,7 @@ impl<A: Allocator + Copy> Records<A> {
 
     // Returns the stored form of a forced entry, if its number fits.
     fn store_short_forced(&mut self, base: u64, forced: &ForcedEntry) -> Option<Compact>
-        requires { HasRoom self.old 1 }
+        requires { HasPartsRoom self.old 1 }
         ensures { ShowsIfSome base (forced_entry forced.now) self.old self.new result }
     {
         stored_forced(base, forced)
@@ -345,8 +345,8 @@ impl<A: Allocator + Copy> Records<A> {
 
     /// Stores a forced entry, and returns its stored form. This allocates nothing.
     pub(crate) fn store_forced(&mut self, base: u64, forced: &ForcedEntry) -> Compact
-        requires room { HasRoom self.old 1 }
-        requires few { vec_len self.old.wholes ≤ 4294967295 }
+        requires room { HasPartsRoom self.old 1 }
+        requires within { vec_len self.old.wholes ≤ 4294967295 }
         ensures { Shows base (forced_entry forced.now) self.old self.new result }
     {
         match self.store_short_forced(base, forced) {
@@ -358,8 +358,8 @@ impl<A: Allocator + Copy> Records<A> {
     /// Stores what an entry refers to, and returns its stored form. The entry is copied only if one
     /// of its numbers does not fit. This allocates nothing.
     pub(crate) fn store(&mut self, base: u64, entry: &Entry) -> Compact
-        requires room { HasRoom self.old 1 }
-        requires few { vec_len self.old.wholes ≤ 4294967295 }
+        requires room { HasPartsRoom self.old 1 }
+        requires within { vec_len self.old.wholes ≤ 4294967295 }
         ensures { Shows base entry.now self.old self.new result }
     {
         match self.store_short(base, entry) {
@@ -377,8 +377,8 @@ impl<A: Allocator + Copy> Records<A> {
         call: &Call,
         outcome: Option<Outcome>,
     ) -> Compact
-        requires room { HasRoom self.old 1 }
-        requires few { vec_len self.old.wholes ≤ 4294967295 }
+        requires room { HasPartsRoom self.old 1 }
+        requires within { vec_len self.old.wholes ≤ 4294967295 }
         ensures { Shows base (CallEntry client call.now outcome) self.old self.new result }
     {
         match self.store_short_call(base, client, call, outcome) {

@@ -97,7 +97,7 @@ pub(crate) fn one_text<A: Allocator + Copy>(
     requires { vec_len texts.old + 32 ≤ vec_capacity texts.old }
     ensures some { IfSome result (λ p. HasText texts.old texts.new name.now p.0 p.1) }
     ensures none { result ≡ None → texts.new ≡ texts.old }
-    ensures same { result ≡ None → hints.new ≡ hints.old }
+    ensures unchanged { result ≡ None → hints.new ≡ hints.old }
 {
     let key = key_for(name);
     let length = name.as_bytes().len();
@@ -125,7 +125,7 @@ pub(crate) fn two_texts<A: Allocator + Copy>(
     ensures some { IfSome result (λ p.
         HasTexts texts.old texts.new one.now other.now p.0 p.1 p.2) }
     ensures none { result ≡ None → texts.new ≡ texts.old }
-    ensures same { result ≡ None → hints.new ≡ hints.old }
+    ensures unchanged { result ≡ None → hints.new ≡ hints.old }
 {
     let key = key_for(one);
     let first = one.as_bytes().len();

@@ -9,13 +9,14 @@ use Rattle.pt_model.specs.declared.entry.Entry.{Entry}
 use Rattle.pt_model.specs.declared.entry.Event.{Event}
 use Rattle.pt_model.specs.declared.entry.Event.TheVariants as event
 use Rattle.pt_model.specs.Searches.{Each, In}
-use Rattle.pt_told.specs.OwnEvents.{own_event, own_from, placed, PartsAt}
+use Rattle.pt_client_events.specs.OwnEvents.{own_event, own_from, with_place, PartsAt}
 use Rattle.pt_cells.specs.Cells.{CellView, SeenView, AreCells, seen_if}
 use Rattle.pt_cells.proofs.Firsts.{first-at}
 use Rattle.pt_hub.specs.declared.pass.Receipt.{Receipt}
-use Rattle.pt_hub.specs.Desks.{Desk, kept, seen_at, Meets}
+use Rattle.pt_hub.specs.AnsweringCores.{AnsweringCoreView, hub_core, seen_at, Meets}
 use Rattle.pt_hub.specs.Passes.{LeftView, AreReceipts, IsDeathOf, IsJoinOf, IsOwn, IsReceiptOf, RisesFrom, last_place}
-use Rattle.pt_hub.specs.Closing.{Claim, HasMet, IsHonest, IsMet, claims_since, own_events, seen_claims}
+use Rattle.pt_hub.specs.Closing.{Claim, HasMet, IsHonest, IsMet, claimed_events_since, own_events}
+use Rattle.pt_hub.specs.Closing.{seen_claims}
 use Rattle.pt_hub.proofs.SeenParts.{Above, IsPast, Rises, never-parts, nothing-past, one-past}
 
 abbrev Placed : Type 0
@@ -36,7 +37,7 @@ own-above c k j [] l = tt
 own-above c k j (e ∷ es) l = go (own_event c e) (own-above c (suc k) j es (omega (arith, l)))
   where
     go : (o : Option Event) → Above j (own_from c (suc k) es)
-        → Above j (placed k o ++ own_from c (suc k) es)
+        → Above j (with_place k o ++ own_from c (suc k) es)
     go None rest = rest
     go (Some v) rest = (l, rest)
 
@@ -45,7 +46,7 @@ own-rises c k [] = tt
 own-rises c k (e ∷ es) = go (own_event c e) (own-rises c (suc k) es)
   where
     go : (o : Option Event) → Rises (own_from c (suc k) es)
-        → Rises (placed k o ++ own_from c (suc k) es)
+        → Rises (with_place k o ++ own_from c (suc k) es)
     go None rest = rest
     go (Some v) rest = (own-above c (suc k) k es (omega arith), rest)
 
@@ -62,7 +63,7 @@ own-in c k (suc i) (x ∷ xs) e v s o =
     (own-in c (suc k) i xs e v s o))
   where
     go : (w : Option Event) → In (k + suc i, v) (own_from c (suc k) xs)
-        → In (k + suc i, v) (placed k w ++ own_from c (suc k) xs)
+        → In (k + suc i, v) (with_place k w ++ own_from c (suc k) xs)
     go None rest = rest
     go (Some w) rest = inr rest
 
@@ -83,7 +84,8 @@ rises-some p (x ∷ xs) a = go (p x) (rises-some p xs a.1)
     go true rest = (above-some x.0 p xs a.0, rest)
     go false rest = rest
 
-in-some : (p : Placed → Bool) (xs : List Placed) (x : Placed) → p x ≡ true → In x xs → In x (filter p xs)
+in-some : (p : Placed → Bool) (xs : List Placed) (x : Placed) → p x ≡ true → In x xs
+    → In x (filter p xs)
 in-some p [] x t i = absurd i
 in-some p (y ∷ ys) x t (inl s) =
     let is : p y ≡ true = ap p (sym s) ∙ t in
@@ -100,14 +102,18 @@ claim_of c r = (r.place, event.Call c r.call)
 
 calls-above : (c k : ℕ) (rs : List Receipt) → RisesFrom k rs → Above k (map (claim_of c) rs)
 calls-above c k [] s = tt
-calls-above c k (r ∷ rs) s =
-    (s.0, weaker k r.place (map (claim_of c) rs) (omega (arith, s.0)) (calls-above c r.place rs s.1))
+calls-above c k (r ∷ rs) s = (
+  s.0,
+  weaker k r.place (map (claim_of c) rs) (omega (arith, s.0))
+      (calls-above c r.place rs s.1),
+)
 
 calls-rise : (c k : ℕ) (rs : List Receipt) → RisesFrom k rs → Rises (map (claim_of c) rs)
 calls-rise c k [] s = tt
 calls-rise c k (r ∷ rs) s = (calls-above c r.place rs s.1, calls-rise c r.place rs s.1)
 
-calls-in : (c : ℕ) (rs : List Receipt) (r : Receipt) → In r rs → In (claim_of c r) (map (claim_of c) rs)
+calls-in : (c : ℕ) (rs : List Receipt) (r : Receipt) → In r rs
+    → In (claim_of c r) (map (claim_of c) rs)
 calls-in c [] r i = absurd i
 calls-in c (q ∷ qs) r (inl s) = inl (ap (claim_of c) s)
 calls-in c (q ∷ qs) r (inr i) = inr (calls-in c qs r i)
@@ -119,19 +125,21 @@ there-if j None t e = absurd cc
 there-if j (Some None) t e = absurd cc
 there-if j (Some (Some c)) t e = cc
 
-module _ (d : Desk) (j : ℕ) (t : SeenView) (cells : AreCells (kept d).entries d.core.cells)
+module _ (d : AnsweringCoreView) (j : ℕ) (t : SeenView) (cells : AreCells
+    (hub_core d).entries d.core.cells)
     (there : seen_at d j ≡ Some t) where
-  has : ((kept d).start.at ≤ j) × (slice_get (kept d).entries (j - (kept d).start.at) ≡ Some t.cell.entry)
-  has = go (nat_lt j (kept d).start.at) refl there
+  has : ((hub_core d).start.at ≤ j) × (slice_get (hub_core d).entries (j - (hub_core d).start.at)
+      ≡ Some t.cell.entry)
+  has = go (nat_lt j (hub_core d).start.at) refl there
     where
-      go : (b : Bool) → nat_lt j (kept d).start.at ≡ b
-          → cond b None (seen_if j (slice_get d.core.cells (j - (kept d).start.at))) ≡ Some t
-          → ((kept d).start.at ≤ j)
-          × (slice_get (kept d).entries (j - (kept d).start.at) ≡ Some t.cell.entry)
+      go : (b : Bool) → nat_lt j (hub_core d).start.at ≡ b
+          → cond b None (seen_if j (slice_get d.core.cells (j - (hub_core d).start.at))) ≡ Some t
+          → ((hub_core d).start.at ≤ j)
+          × (slice_get (hub_core d).entries (j - (hub_core d).start.at) ≡ Some t.cell.entry)
       go true l e = absurd cc
       go false l e = (
         grind (arith, nat_tests),
-        first-at (kept d).entries d.core.cells (j - (kept d).start.at) t.cell cells.first
+        first-at (hub_core d).entries d.core.cells (j - (hub_core d).start.at) t.cell cells.first
             (there-if j _ t e),
       )
 
@@ -156,12 +164,12 @@ last-in [] x = inl refl
 last-in (y ∷ ys) x = inr (last-in ys x)
 
 -- an event that the client has seen in the cell that the history has
-module _ (d : Desk) (c j : ℕ) (v : Event) (mine theirs : SeenView)
-    (cells : AreCells (kept d).entries d.core.cells) (met : Meets d mine)
+module _ (d : AnsweringCoreView) (c j : ℕ) (v : Event) (mine theirs : SeenView)
+    (cells : AreCells (hub_core d).entries d.core.cells) (met : Meets d mine)
     (own : (mine.place ≡ j) × (own_event c mine.cell.entry ≡ Some v))
     (there : seen_at d j ≡ Some theirs) (same_cell : theirs.cell.name ≡ mine.cell.name) where
   abbrev at : ℕ
-  at = (kept d).start.at
+  at = (hub_core d).start.at
 
   abbrev p : Placed → Bool
   p = λ x. nat_le at x.0
@@ -172,35 +180,38 @@ module _ (d : Desk) (c j : ℕ) (v : Event) (mine theirs : SeenView)
       subst (λ o. IfSome o (λ u. u.cell.name ≡ mine.cell.name
       → u.cell.entry ≡ mine.cell.entry)) there_mine met same_cell
 
-  own_has : In (j, v) (own_from c at (kept d).entries)
+  own_has : In (j, v) (own_from c at (hub_core d).entries)
   own_has =
       let here = has d j theirs cells there in
-      subst (λ (n : ℕ). In (n, v) (own_from c at (kept d).entries)) (omega (arith, here.0))
-      (own-in c at (j - at) (kept d).entries theirs.cell.entry v here.1
+      subst (λ (n : ℕ). In (n, v) (own_from c at (hub_core d).entries)) (omega (arith, here.0))
+      (own-in c at (j - at) (hub_core d).entries theirs.cell.entry v here.1
       (ap (own_event c) same_entry ∙ own.1))
 
   late : p (j, v) ≡ true
   late = let here = (has d j theirs cells there).0 in grind (arith, nat_tests)
 
   never : (rs ds : List Placed) → Rises rs → In (j, v) rs → IsPast j (filter p ds)
-      → PartsAt (own_from c at (kept d).entries) (filter p (rs ++ ds)) j → ⊥
+      → PartsAt (own_from c at (hub_core d).entries) (filter p (rs ++ ds)) j → ⊥
   never rs ds r i f parts =
-      never-parts (own_from c at (kept d).entries) (filter p rs) (filter p ds) (j, v)
-      (own-rises c at (kept d).entries) (rises-some p rs r) own_has (in-some p rs (j, v) late i) f
-      (subst (λ xs. PartsAt (own_from c at (kept d).entries) xs j) (filter-append p rs ds) parts)
+      never-parts (own_from c at (hub_core d).entries) (filter p rs) (filter p ds) (j, v)
+      (own-rises c at (hub_core d).entries) (rises-some p rs r) own_has (in-some p rs
+      (j, v) late i) f
+      (subst (λ xs. PartsAt (own_from c at (hub_core d).entries) xs j)
+      (filter-append p rs ds) parts)
 
 append-nothing : (xs : List Placed) → xs ++ [] ≡ xs
 append-nothing [] = refl
 append-nothing (x ∷ xs) = ap (λ ys. x ∷ ys) (append-nothing xs)
 
 -- a client that has seen its Join, its calls and its Death
-module _ (d : Desk) (l : LeftView) (cells : AreCells (kept d).entries d.core.cells)
+module _ (d : AnsweringCoreView) (l : LeftView) (cells : AreCells (hub_core d).entries d.core.cells)
     (met_join : HasMet d l.joined) (met_calls : Each (IsMet d) l.receipts)
     (met_death : HasMet d l.seen) (are : AreReceipts l.client l.receipts)
     (join : IsJoinOf l.client l.priority l.joined)
     (death : IsDeathOf l.client l.receipts l.died_at l.seen) (j : ℕ) (mine theirs : SeenView)
     (there : seen_at d j ≡ Some theirs) (same_cell : theirs.cell.name ≡ mine.cell.name)
-    (parts : PartsAt (own_events (kept d) l.client) (claims_since (kept d) l) j) where
+    (parts : PartsAt (own_events (hub_core d) l.client) (claimed_events_since
+    (hub_core d) l) j) where
   abbrev Never : Claim → Type 0
   Never q = q.place ≡ j → (l.died_at ≡ j → q.event ≡ event.Death l.client) → q.seen ≡ Some mine → ⊥
 
@@ -219,11 +230,13 @@ module _ (d : Desk) (l : LeftView) (cells : AreCells (kept d).entries d.core.cel
     calls-rise l.client l.client l.receipts are.rises,
   )
 
-  seen_own : (k : ℕ) (v : Event) (o : Option SeenView) → k ≡ j → o ≡ Some mine → IsOwn l.client k v o
+  seen_own : (k : ℕ) (v : Event) (o : Option SeenView) → k ≡ j → o ≡ Some mine
+      → IsOwn l.client k v o
       → (mine.place ≡ j) × (own_event l.client mine.cell.entry ≡ Some v)
   seen_own k v o place seen own =
       subst (λ (n : ℕ). (mine.place ≡ n) × (own_event l.client mine.cell.entry ≡ Some v)) place
-      (subst (λ w. IfSome w (λ s. (s.place ≡ k) × (own_event l.client s.cell.entry ≡ Some v))) seen own)
+      (subst (λ w. IfSome w (λ s. (s.place ≡ k) × (own_event l.client s.cell.entry
+      ≡ Some v))) seen own)
 
   seen_met : (o : Option SeenView) → o ≡ Some mine → HasMet d o → Meets d mine
   seen_met o seen met = subst (λ w. IfSome w (Meets d)) seen met
@@ -232,15 +245,18 @@ module _ (d : Desk) (l : LeftView) (cells : AreCells (kept d).entries d.core.cel
   past lives true = one-past j died lives
   past lives false = nothing-past j
 
-  among_claimed : (v : Event) (o : Option SeenView) → In (j, v) claimed → l.died_at ≢ j → Meets d mine
+  among_claimed : (v : Event) (o : Option SeenView) → In (j, v) claimed → l.died_at ≢ j
+      → Meets d mine
       → (mine.place ≡ j) × (own_event l.client mine.cell.entry ≡ Some v) → ⊥
   among_claimed v o i lives met own =
-      never d l.client j v mine theirs cells met own there same_cell claimed (died ∷ []) claimed_rise i
-      (past lives (nat_le (kept d).start.at l.died_at)) parts
+      never d l.client j v mine theirs cells met own there same_cell claimed (died
+      ∷ []) claimed_rise i
+      (past lives (nat_le (hub_core d).start.at l.died_at)) parts
 
   join_never : Never (record { place = l.client; event = event.Join l.priority; seen = l.joined })
   join_never place alone seen =
-      among_claimed (event.Join l.priority) l.joined (inl (ap (λ (n : ℕ). (n, event.Join l.priority)) (sym place)))
+      among_claimed (event.Join l.priority) l.joined (inl (ap (λ (n : ℕ).
+      (n, event.Join l.priority)) (sym place)))
       (λ e. differ (alone e)) (seen_met l.joined seen met_join)
       (seen_own l.client (event.Join l.priority) l.joined place seen join)
     where
@@ -251,7 +267,8 @@ module _ (d : Desk) (l : LeftView) (cells : AreCells (kept d).entries d.core.cel
       → Never (record { place = r.place; event = event.Call l.client r.call; seen = r.seen })
   call_never r among place alone seen =
       among_claimed (event.Call l.client r.call) r.seen
-      (inr (subst (λ (n : ℕ). In (n, event.Call l.client r.call) (map (claim_of l.client) l.receipts)) place
+      (inr (subst (λ (n : ℕ). In (n, event.Call l.client r.call) (map
+      (claim_of l.client) l.receipts)) place
       (calls-in l.client l.receipts r among))) (λ e. differ (alone e))
       (seen_met r.seen seen (each-in (IsMet d) l.receipts r met_calls among))
       (seen_own r.place (event.Call l.client r.call) r.seen place seen
@@ -265,10 +282,12 @@ module _ (d : Desk) (l : LeftView) (cells : AreCells (kept d).entries d.core.cel
       never d l.client j (event.Death l.client) mine theirs cells (seen_met l.seen seen met_death)
       (seen_own l.died_at (event.Death l.client) l.seen place seen death.own) there same_cell
       (claimed ++ died ∷ []) [] rise
-      (subst (λ (n : ℕ). In (n, event.Death l.client) (claimed ++ died ∷ [])) place (last-in claimed died))
+      (subst (λ (n : ℕ). In (n, event.Death l.client) (claimed ++ died
+      ∷ [])) place (last-in claimed died))
       (nothing-past j)
-      (subst (λ xs. PartsAt (own_events (kept d) l.client)
-      (filter (λ x. nat_le (kept d).start.at x.0) xs) j) (sym (append-nothing (claimed ++ died ∷ []))) parts)
+      (subst (λ xs. PartsAt (own_events (hub_core d) l.client)
+      (filter (λ x. nat_le (hub_core d).start.at x.0) xs) j) (sym (append-nothing (claimed ++ died
+      ∷ []))) parts)
     where
       last : last_place l.client l.receipts < l.died_at
       last = subst (λ w. IfSome w (λ s. last_place l.client l.receipts < l.died_at)) seen death.last
@@ -292,7 +311,8 @@ module _ (d : Desk) (l : LeftView) (cells : AreCells (kept d).entries d.core.cel
   never_claimed : Each Never (seen_claims l)
   never_claimed = (join_never, calls_never l.receipts (λ r i. i))
 
-pub honest : (d : Desk) (l : LeftView) → AreCells (kept d).entries d.core.cells → HasMet d l.joined
+pub honest : (d : AnsweringCoreView) (l : LeftView) → AreCells (hub_core d).entries d.core.cells
+    → HasMet d l.joined
     → Each (IsMet d) l.receipts → HasMet d l.seen → AreReceipts l.client l.receipts
     → IsJoinOf l.client l.priority l.joined → IsDeathOf l.client l.receipts l.died_at l.seen
     → IsHonest d l
@@ -300,4 +320,4 @@ honest d l cells met_join met_calls met_death are join death j t parts =
     each-in (Never d l cells met_join met_calls met_death are join death j t.mine t.theirs t.there
     t.same_cell parts) (seen_claims l) t.claim
     (never_claimed d l cells met_join met_calls met_death are join death j t.mine t.theirs t.there
-    t.same_cell parts) t.among t.place t.alone t.seen
+    t.same_cell parts) t.among t.place t.only_death t.seen

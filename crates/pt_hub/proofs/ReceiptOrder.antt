@@ -3,12 +3,12 @@ use Rattle.std.proofs.Common.{◌≡◌, ℕ, zero, suc, ◌-◌, ◌<◌, List,
 use Rattle.std.proofs.Common.{slice_get, slice_set, IfSome, Option, Some, None, refl, sym, ap, ◌∙◌, subst, arith}
 use Rattle.std.proofs.lemmas.Option.{slice_get-get_or}
 use Rattle.pt_types.specs.declared.outcome.Outcome.{Outcome}
-use Rattle.pt_types.specs.declared.call.Call.{Call as Asked}
+use Rattle.pt_types.specs.declared.call.Call.{Call as FunctionCall}
 use Rattle.pt_model.specs.declared.entry.Event.TheVariants as event
 use Rattle.pt_model.specs.Searches.{Each}
 use Rattle.pt_hub.specs.declared.pass.Receipt.{Receipt}
-use Rattle.pt_told.specs.OwnEvents.{own_event}
-use Rattle.pt_hub.specs.Hubs.{answered, last_receipt, with_last}
+use Rattle.pt_client_events.specs.OwnEvents.{own_event}
+use Rattle.pt_hub.specs.Hubs.{receipts_with_answer, last_receipt, with_last}
 use Rattle.pt_hub.specs.Passes.{AreReceipts, IsReceiptOf, RisesFrom, last_place}
 
 abbrev pub last_if : ℕ → Option Receipt → ℕ
@@ -54,8 +54,9 @@ alike-set (q ∷ qs) zero r x e =
     )
 alike-set (q ∷ qs) (suc i) r x e = (refl, refl, refl, alike-set qs i r x e)
 
-alike-answered : (rs : List Receipt) (x : Outcome) → Alike rs (answered rs x)
-alike-answered rs x = go (last_receipt rs) refl
+alike-receipts_with_answer : (rs : List Receipt) (x : Outcome)
+    → Alike rs (receipts_with_answer rs x)
+alike-receipts_with_answer rs x = go (last_receipt rs) refl
   where
     go : (o : Option Receipt) → last_receipt rs ≡ o → Alike rs (with_last rs o x)
     go None e = alike-same rs
@@ -69,26 +70,28 @@ each-alike c (q ∷ qs) [] a e = absurd a
 each-alike c (q ∷ qs) (r ∷ rs) a e = (
   subst (λ o. IfSome o (λ s. (s.place ≡ r.place)
       × (own_event c s.cell.entry ≡ Some (event.Call c r.call)))) a.2
-      (subst (λ (k : Asked). IfSome q.seen (λ s. (s.place ≡ r.place)
+      (subst (λ (k : FunctionCall). IfSome q.seen (λ s. (s.place ≡ r.place)
       × (own_event c s.cell.entry ≡ Some (event.Call c k)))) a.1
       (subst (λ (n : ℕ). IfSome q.seen (λ s. (s.place ≡ n)
       × (own_event c s.cell.entry ≡ Some (event.Call c q.call)))) a.0 e.0)),
   each-alike c qs rs a.3 e.1,
 )
 
-rises-alike : (k n : ℕ) (qs rs : List Receipt) → k ≡ n → Alike qs rs → RisesFrom k qs → RisesFrom n rs
+rises-alike : (k n : ℕ) (qs rs : List Receipt) → k ≡ n → Alike qs rs → RisesFrom k qs
+    → RisesFrom n rs
 rises-alike k n [] [] e a s = tt
 rises-alike k n [] (r ∷ rs) e a s = absurd a
 rises-alike k n (q ∷ qs) [] e a s = absurd a
 rises-alike k n (q ∷ qs) (r ∷ rs) e a s =
     (omega (arith, e, a.0, s.0), rises-alike q.place r.place qs rs a.0 a.3 s.1)
 
-pub receipts-answered : (c : ℕ) (rs : List Receipt) (x : Outcome) → AreReceipts c rs
-    → AreReceipts c (answered rs x)
-receipts-answered c rs x a =
+pub receipts-receipts_with_answer : (c : ℕ) (rs : List Receipt) (x : Outcome) → AreReceipts c rs
+    → AreReceipts c (receipts_with_answer rs x)
+receipts-receipts_with_answer c rs x a =
     record {
-      each = each-alike c rs (answered rs x) (alike-answered rs x) a.each;
-      rises = rises-alike c c rs (answered rs x) refl (alike-answered rs x) a.rises;
+      each = each-alike c rs (receipts_with_answer rs x) (alike-receipts_with_answer rs x) a.each;
+      rises = rises-alike c c rs (receipts_with_answer rs x) refl
+          (alike-receipts_with_answer rs x) a.rises;
     }
 
 -- the last of these is at the last place

@@ -3,7 +3,7 @@
 use Rattle.std.proofs.Common.{◌≡◌, ◌≢◌, ◌⊎◌, ℕ, ◌<◌, min, subst, List, [], ◌∷◌, ◌++◌, inl, inr, sym, ap, ◌∙◌, arith}
 use Rattle.pt_model.specs.declared.entry.Event.{Event}
 use Rattle.pt_model.specs.Searches.{In, Each}
-use Rattle.pt_told.specs.OwnEvents.{PartsAt}
+use Rattle.pt_client_events.specs.OwnEvents.{PartsAt}
 
 -- events with their places
 abbrev Placed : Type 0
@@ -26,9 +26,9 @@ above-in j [] x a i = absurd i
 above-in j (y ∷ ys) x a (inl e) = omega (arith, a.0, ap (λ (p : Placed). p.0) e)
 above-in j (y ∷ ys) x a (inr i) = above-in j ys x a.1 i
 
-lesser-place : (a b j : ℕ) → (a < j) ⊎ (b < j) → min a b ≡ j → ⊥
-lesser-place a b j (inl l) e = omega (arith, l, e)
-lesser-place a b j (inr l) e = omega (arith, l, e)
+min_place-place : (a b j : ℕ) → (a < j) ⊎ (b < j) → min a b ≡ j → ⊥
+min_place-place a b j (inl l) e = omega (arith, l, e)
+min_place-place a b j (inr l) e = omega (arith, l, e)
 
 greater-place : (a b j : ℕ) → j < a → j < b → min a b ≡ j → ⊥
 greater-place a b j l m e = omega (arith, l, m, e)
@@ -64,12 +64,12 @@ never-parts (o ∷ os) (r ∷ rs) ds x a b (inl i) (inl k) f (inr p) = p.0 (sym 
 never-parts (o ∷ os) (r ∷ rs) ds x a b (inl i) (inr k) f (inl p) =
     omega (arith, above-in r.0 rs x b.0 k, ap (λ (y : Placed). y.0) (i ∙ p.0))
 never-parts (o ∷ os) (r ∷ rs) ds x a b (inl i) (inr k) f (inr p) =
-    lesser-place o.0 r.0 x.0 (inr (above-in r.0 rs x b.0 k)) p.1
+    min_place-place o.0 r.0 x.0 (inr (above-in r.0 rs x b.0 k)) p.1
 never-parts (o ∷ os) (r ∷ rs) ds x a b (inr i) (inl k) f (inl p) =
     omega (arith, above-in o.0 os x a.0 i, ap (λ (y : Placed). y.0) (k ∙ sym p.0))
 never-parts (o ∷ os) (r ∷ rs) ds x a b (inr i) (inl k) f (inr p) =
-    lesser-place o.0 r.0 x.0 (inl (above-in o.0 os x a.0 i)) p.1
+    min_place-place o.0 r.0 x.0 (inl (above-in o.0 os x a.0 i)) p.1
 never-parts (o ∷ os) (r ∷ rs) ds x a b (inr i) (inr k) f (inl p) =
     never-parts os rs ds x a.1 b.1 i k f p.1
 never-parts (o ∷ os) (r ∷ rs) ds x a b (inr i) (inr k) f (inr p) =
-    lesser-place o.0 r.0 x.0 (inl (above-in o.0 os x a.0 i)) p.1
+    min_place-place o.0 r.0 x.0 (inl (above-in o.0 os x a.0 i)) p.1

@@ -3,7 +3,7 @@ use Rattle.std.specs.Prelude.{ℕ, ◌≡◌, ◌+◌, ◌<◌, List, [], ◌∷
 use Rattle.pt_model.specs.declared.entry.Event.{Event}
 use Rattle.pt_model.specs.declared.entry.Event.TheVariants as event
 use Rattle.pt_model.specs.Searches.{Each}
-use Rattle.pt_told.specs.OwnEvents.{own_event}
+use Rattle.pt_client_events.specs.OwnEvents.{own_event}
 use Rattle.pt_cells.specs.Cells.{SeenView}
 use Rattle.pt_hub.specs.declared.pass.Receipt.{Receipt}
 use Rattle.pt_hub.specs.declared.pass.Tick.{Tick}

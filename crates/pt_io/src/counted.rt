@@ -13,7 +13,7 @@ use std::marker::Model;
 
 /// The number of times that a read, a write or a flush is retried if a signal interrupts it, before
 /// it counts as a failure. The first try does not count.  [XSH read, EINTR; the number is profile]
-pub const TRIES_AGAIN: u32 = 16;
+pub const MAX_TRIES: u32 = 16;
 
 /// A reader of std as a `Source`, or a writer of std as a `Sink`.
 ///
@@ -122,11 +122,11 @@ fn note_rejection(rejections: &mut Log<(), ()>, n: usize, buf: &[u8])
 }
 
 /// Reads, and retries if the read is interrupted. Nothing has moved in that case.
-fn read_again<R: Read>(device: &mut R, buf: &mut [u8]) -> io::Result<usize>
+fn retry_read<R: Read>(device: &mut R, buf: &mut [u8]) -> io::Result<usize>
     ensures bound { ReadsAtMost result buf.new }
     ensures device { ReadConsumes (R.remaining device.old) (R.remaining device.new) result buf.new }
 {
-    for _ in 0..TRIES_AGAIN {
+    for _ in 0..MAX_TRIES {
         match device.read(buf) {
             Err(error) if error.kind() == ErrorKind::Interrupted => {}
             answer => return answer,
@@ -136,11 +136,11 @@ fn read_again<R: Read>(device: &mut R, buf: &mut [u8]) -> io::Result<usize>
 }
 
 /// Writes, and retries if the write is interrupted. Nothing has moved in that case.
-fn write_again<W: Write>(device: &mut W, buf: &[u8]) -> io::Result<usize>
+fn retry_write<W: Write>(device: &mut W, buf: &[u8]) -> io::Result<usize>
     ensures bound { WritesAtMost result buf.now }
     ensures device { WriteAppends (W.contents device.old) (W.contents device.new) result buf.now }
 {
-    for _ in 0..TRIES_AGAIN {
+    for _ in 0..MAX_TRIES {
         match device.write(buf) {
             Err(error) if error.kind() == ErrorKind::Interrupted => {}
             answer => return answer,
@@ -150,10 +150,10 @@ fn write_again<W: Write>(device: &mut W, buf: &[u8]) -> io::Result<usize>
 }
 
 /// Flushes, and retries if the flush is interrupted.
-fn flush_again<W: Write>(device: &mut W) -> io::Result<()>
+fn retry_flush<W: Write>(device: &mut W) -> io::Result<()>
     ensures { Keeps (W.contents device.old) (W.contents device.new) }
 {
-    for _ in 0..TRIES_AGAIN {
+    for _ in 0..MAX_TRIES {
         match device.flush() {
             Err(error) if error.kind() == ErrorKind::Interrupted => {}
             answer => return answer,
@@ -173,7 +173,7 @@ impl<R: Read> Source for Counted<R> {
 
     ghost ended = { λ s. s.has_ended };
 
-    /// Reads. An interrupted read is retried up to `TRIES_AGAIN` times.
+    /// Reads. An interrupted read is retried up to `MAX_TRIES` times.
     fn read(&mut self, buf: &mut [u8]) -> io::Result<usize>
         requires { count_of self.old.has_failed ≡ 0 }
         ensures bound { ReadsAtMost result buf.new }
@@ -189,7 +189,7 @@ impl<R: Read> Source for Counted<R> {
         ensures device { ReadConsumes
             (R.remaining self.old.device) (R.remaining self.new.device) result buf.new }
     {
-        let read = read_again(&mut self.device, buf);
+        let read = retry_read(&mut self.device, buf);
         self.has_failed = read.is_err();
         self.reads = self.reads.and(&(), &());
         self.recent = Log::new();
@@ -215,7 +215,7 @@ impl<W: Write> Sink for Counted<W> {
 
     ghost failures = { λ s. count_of s.has_failed };
 
-    /// Writes. An interrupted write is retried up to `TRIES_AGAIN` times.
+    /// Writes. An interrupted write is retried up to `MAX_TRIES` times.
     fn write(&mut self, buf: &[u8]) -> io::Result<usize>
         requires { count_of self.old.has_failed ≡ 0 }
         ensures bound { WritesAtMost result buf.now }
@@ -233,7 +233,7 @@ impl<W: Write> Sink for Counted<W> {
             (W.contents self.old.device) (W.contents self.new.device) result buf.now }
         ensures end { self.new.has_ended ≡ self.old.has_ended }
     {
-        let wrote = write_again(&mut self.device, buf);
+        let wrote = retry_write(&mut self.device, buf);
         self.has_failed = wrote.is_err();
         if let Ok(n) = wrote {
             note_rejection(&mut self.rejections, n, buf);
@@ -243,7 +243,7 @@ impl<W: Write> Sink for Counted<W> {
         wrote
     }
 
-    /// Flushes. An interrupted flush is retried up to `TRIES_AGAIN` times.
+    /// Flushes. An interrupted flush is retried up to `MAX_TRIES` times.
     fn flush(&mut self) -> io::Result<()>
         requires { count_of self.old.has_failed ≡ 0 }
         ensures bytes { self.new.bytes ≡ self.old.bytes }
@@ -258,7 +258,7 @@ impl<W: Write> Sink for Counted<W> {
         ensures device { Keeps (W.contents self.old.device) (W.contents self.new.device) }
         ensures end { self.new.has_ended ≡ self.old.has_ended }
     {
-        let flushed = flush_again(&mut self.device);
+        let flushed = retry_flush(&mut self.device);
         self.has_failed = flushed.is_err();
         if flushed.is_ok() {
             self.recent = Log::new();

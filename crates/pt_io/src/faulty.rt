@@ -127,7 +127,7 @@ fn is_due(until_fault: &mut u64) -> bool
 /// Copies bytes from the front of what is left, and returns how many.
 fn copy_front(left: &[u8], step: usize, buf: &mut [u8]) -> usize
     ensures value { result ≡ min (min (length buf.new) step) (length left.now) }
-    ensures there { result ≤ length left.now }
+    ensures within { result ≤ length left.now }
     ensures room { (result ≤ length buf.new) × (result ≡ length (take result buf.new)) }
     ensures piece { take result buf.new ≡ take result left.now }
 {
@@ -141,7 +141,7 @@ fn copy_front(left: &[u8], step: usize, buf: &mut [u8]) -> usize
 fn give(bytes: &[u8], at: usize, step: usize, buf: &mut [u8]) -> usize
     requires { at ≤ length bytes.now }
     ensures value { result ≡ min (min (length buf.new) step) (length bytes.now - at) }
-    ensures there { at + result ≤ length bytes.now }
+    ensures within { at + result ≤ length bytes.now }
     ensures room { (result ≤ length buf.new) × (result ≡ length (take result buf.new)) }
     ensures given { take (at + result) bytes.now ≡ take at bytes.now ++ take result buf.new }
     ensures left { drop at bytes.now ≡ take result buf.new ++ drop (at + result) bytes.now }
@@ -183,7 +183,7 @@ impl<A: Allocator + Copy> Source for Faulty<A> {
             (λ _. self.new.left ≡ self.old.left) }
 
         // All else is unchanged, and the fault is one call closer.
-        ensures still { (self.new.taken ≡ self.old.taken) × (self.new.step ≡ self.old.step) }
+        ensures unchanged { (self.new.taken ≡ self.old.taken) × (self.new.step ≡ self.old.step) }
         ensures fewer { self.new.until_fault ≡ self.old.until_fault - 1 }
     {
         self.latest = 0;
@@ -237,7 +237,7 @@ impl<A: Allocator + Copy> Sink for Faulty<A> {
             (λ _. self.new.left ≡ self.old.left) }
 
         // All else is unchanged, and the fault is one call closer.
-        ensures still { (self.new.given ≡ self.old.given) × (self.new.step ≡ self.old.step) }
+        ensures unchanged { (self.new.given ≡ self.old.given) × (self.new.step ≡ self.old.step) }
         ensures end { self.new.has_ended ≡ self.old.has_ended }
         ensures fewer { self.new.until_fault ≡ self.old.until_fault - 1 }
     {
@@ -268,7 +268,7 @@ impl<A: Allocator + Copy> Sink for Faulty<A> {
         ensures kind { IfErr result (λ e. error_kind e ≡ Other) }
 
         // All else is unchanged, and the fault is one call closer.
-        ensures still { (self.new.given ≡ self.old.given) × (self.new.left ≡ self.old.left)
+        ensures unchanged { (self.new.given ≡ self.old.given) × (self.new.left ≡ self.old.left)
             × (self.new.step ≡ self.old.step) }
         ensures end { self.new.has_ended ≡ self.old.has_ended }
         ensures fewer { self.new.until_fault ≡ self.old.until_fault - 1 }

@@ -17,7 +17,7 @@ mod faulty;
 mod sink;
 mod source;
 
-pub use counted::{Counted, TRIES_AGAIN};
+pub use counted::{Counted, MAX_TRIES};
 pub use faulty::Faulty;
 pub use sink::Sink;
 pub use source::Source;

@@ -14,9 +14,11 @@ use Rattle.pt_grammar.specs.declared.call_line.CallLine.{CallLine}
 use Rattle.pt_grammar.specs.declared.cut.Cut.{Cut}
 use Rattle.pt_grammar.specs.declared.cut.Cut.TheVariants.{Line, Long}
 use Rattle.pt_grammar.specs.Cuts.{cut_of}
-use Rattle.pt_grammar.specs.Lines.{lines_after, lines, lines_past_newline, NoNewline, Held, IsBegun}
-use Rattle.pt_grammar.specs.Lines.{to_come, last_of, joined, AllTexts, IsFront, past_line}
-use Rattle.pt_grammar.specs.Reading.{call_of, call_read, IsNextCallLine}
+use Rattle.pt_grammar.specs.Lines.{lines_after, lines, lines_after_newline, NoNewline, CutterView}
+use Rattle.pt_grammar.specs.Lines.{HasNoWholeLine}
+use Rattle.pt_grammar.specs.Lines.{lines_to_come, last_of, join_lines, AllTexts, IsFirstLine}
+use Rattle.pt_grammar.specs.Lines.{after_line}
+use Rattle.pt_grammar.specs.Reading.{call_of_cut, call_read, IsNextCallLine}
 use Rattle.pt_grammar.specs.declared.script_line.ScriptLine.{ScriptLine}
 use Rattle.pt_grammar.specs.Script.{script_of, script_read, short_read, long_line, IsNextScriptLine}
 
@@ -74,7 +76,7 @@ cut_of-short text short =
 -- a line that is too long is given once, and the rest of it is dropped
 pub lines_after-long :
     (begun bytes : List ℕ) → 128 < length begun
-    → lines_after begun bytes ≡ Long ∷ lines_past_newline bytes
+    → lines_after begun bytes ≡ Long ∷ lines_after_newline bytes
 lines_after-long [] [] long = absurd (omega arith)
 lines_after-long (x ∷ begun) [] long = ap (λ c. c ∷ []) (cut_of-long (x ∷ begun) long)
 lines_after-long begun (b ∷ bytes) long =
@@ -85,7 +87,7 @@ lines_after-long begun (b ∷ bytes) long =
     (cut_of-long begun long)
     ∙ ap (λ ls. cond (b == 10) (Long ∷ lines bytes) ls)
     (lines_after-long (begun ++ b ∷ []) bytes longer)
-    ∙ either (b == 10) (lines bytes) (lines_past_newline bytes)
+    ∙ either (b == 10) (lines bytes) (lines_after_newline bytes)
   where
     either :
         (t : Bool) (xs ys : List Cut) → cond t (Long ∷ xs) (Long ∷ ys) ≡ Long ∷ cond t xs ys
@@ -93,18 +95,18 @@ lines_after-long begun (b ∷ bytes) long =
     either false xs ys = refl
 
 -- bytes without a newline are dropped
-pub lines_past_newline-append :
-    (xs ys : List ℕ) → NoNewline xs → lines_past_newline (xs ++ ys) ≡ lines_past_newline ys
-lines_past_newline-append [] ys h = refl
-lines_past_newline-append (x ∷ xs) ys h =
-    ap (λ b. cond b (lines (xs ++ ys)) (lines_past_newline (xs ++ ys)))
+pub lines_after_newline-append :
+    (xs ys : List ℕ) → NoNewline xs → lines_after_newline (xs ++ ys) ≡ lines_after_newline ys
+lines_after_newline-append [] ys h = refl
+lines_after_newline-append (x ∷ xs) ys h =
+    ap (λ b. cond b (lines (xs ++ ys)) (lines_after_newline (xs ++ ys)))
     (not_newline x (h 0 (omega arith)))
-    ∙ lines_past_newline-append xs ys (tail_has_none x xs h)
+    ∙ lines_after_newline-append xs ys (tail_has_none x xs h)
 
 -- the newline is passed over
-pub lines_past_newline-newline :
-    (xs ys : List ℕ) → NoNewline xs → lines_past_newline (xs ++ 10 ∷ ys) ≡ lines ys
-lines_past_newline-newline xs ys h = lines_past_newline-append xs (10 ∷ ys) h
+pub lines_after_newline-newline :
+    (xs ys : List ℕ) → NoNewline xs → lines_after_newline (xs ++ 10 ∷ ys) ≡ lines ys
+lines_after_newline-newline xs ys h = lines_after_newline-append xs (10 ∷ ys) h
 
 -- the first newline of the bytes is at i
 pub record FirstAt (xs : List ℕ) (i : ℕ) : Type 0 where
@@ -156,11 +158,11 @@ first_in_front xs n i h =
 -- the lines after the first newline
 pub past_first :
     (xs : List ℕ) (i : ℕ) → FirstAt xs i → (more : List ℕ)
-    → lines_past_newline (xs ++ more) ≡ lines (drop (i + 1) xs ++ more)
+    → lines_after_newline (xs ++ more) ≡ lines (drop (i + 1) xs ++ more)
 past_first xs i f more =
-    ap (λ ys. lines_past_newline (ys ++ more)) (split_at_newline xs i f)
-    ∙ ap lines_past_newline (append_assoc (take i xs) (10 ∷ drop (i + 1) xs) more)
-    ∙ lines_past_newline-newline (take i xs) (drop (i + 1) xs ++ more) (NoNewline-take xs i f)
+    ap (λ ys. lines_after_newline (ys ++ more)) (split_at_newline xs i f)
+    ∙ ap lines_after_newline (append_assoc (take i xs) (10 ∷ drop (i + 1) xs) more)
+    ∙ lines_after_newline-newline (take i xs) (drop (i + 1) xs ++ more) (NoNewline-take xs i f)
 
 -- the bytes before the first newline are the first line
 pub first_line :
@@ -181,8 +183,8 @@ take_short n xs le = grind (arith, common_steps)
 
 -- a newline among the first 129 bytes ends the first line
 pub front_of :
-    (held : Held) (n : ℕ) (r : Option ℕ) → held.dropping ≡ false → n ≤ 129
-    → IsFirstByte (is_byte 10) (take n held.rest) r → IfSome r (IsFront held)
+    (held : CutterView) (n : ℕ) (r : Option ℕ) → held.dropping ≡ false → n ≤ 129
+    → IsFirstByte (is_byte 10) (take n held.rest) r → IfSome r (IsFirstLine held)
 front_of held n None keeps few h = tt
 front_of held n (Some i) keeps few h =
     let found = first_in_front held.rest n i h in
@@ -193,40 +195,41 @@ front_of held n (Some i) keeps few h =
       within = found.0.within;
       short = short;
       given = λ more.
-          ap (λ d. cond d (lines_past_newline (held.rest ++ more)) (lines (held.rest ++ more)))
+          ap (λ d. cond d (lines_after_newline (held.rest ++ more)) (lines (held.rest ++ more)))
           keeps
           ∙ first_line held.rest i found.0 short (take i held.rest) refl more
           ∙ ap (λ c. c ∷ lines (drop (i + 1) held.rest ++ more)) (sym line)
           ∙ ap (λ ls. cut_of (take i held.rest) ∷ ls)
-          (sym (ap (λ d. cond d (lines_past_newline (drop (i + 1) held.rest ++ more))
+          (sym (ap (λ d. cond d (lines_after_newline (drop (i + 1) held.rest ++ more))
           (lines (drop (i + 1) held.rest ++ more))) keeps));
     }
 
-abbrev held_of : List ℕ → Bool → Held
+abbrev held_of : List ℕ → Bool → CutterView
 held_of rest dropping = record { rest = rest; dropping = dropping }
 
 -- the next line is given, if it is read in place
 given_in_place :
-    (old : Held) (rest : List ℕ) (dropping : Bool) (end : ℕ) → IsFront old end
+    (old : CutterView) (rest : List ℕ) (dropping : Bool) (end : ℕ) → IsFirstLine old end
     → rest ≡ drop (end + 1) old.rest → dropping ≡ old.dropping → (more : List ℕ)
-    → to_come old more ≡ cut_of (take end old.rest) ∷ to_come (held_of rest dropping) more
+    → lines_to_come old more ≡ cut_of (take end old.rest)
+    ∷ lines_to_come (held_of rest dropping) more
 given_in_place old rest dropping end front past same more =
-    let after : held_of rest dropping ≡ past_line old end =
+    let after : held_of rest dropping ≡ after_line old end =
     ap (λ xs. held_of xs dropping) past
     ∙ ap (λ d. held_of (drop (end + 1) old.rest) d) same in
-    front.given more ∙ ap (λ h. cut_of (take end old.rest) ∷ to_come h more) (sym after)
+    front.given more ∙ ap (λ h. cut_of (take end old.rest) ∷ lines_to_come h more) (sym after)
 
 -- that line is given as its text
 cut_in_place :
-    (old : Held) (end : ℕ) → IsFront old end
+    (old : CutterView) (end : ℕ) → IsFirstLine old end
     → cut_of (take end old.rest) ≡ Line (record { items = take end old.rest })
 cut_in_place old end front =
     cut_of-short (take end old.rest) (take_short end old.rest front.short)
 
 -- a line of a script that is read in place
 pub read_in_place :
-    (old : Held) (rest : List ℕ) (dropping : Bool) (end : ℕ) (line : ScriptLine)
-    → IsFront old end → line ≡ script_read (take end old.rest) → rest ≡ drop (end + 1) old.rest
+    (old : CutterView) (rest : List ℕ) (dropping : Bool) (end : ℕ) (line : ScriptLine)
+    → IsFirstLine old end → line ≡ script_read (take end old.rest) → rest ≡ drop (end + 1) old.rest
     → dropping ≡ old.dropping
     → IsNextScriptLine old line (record { rest = rest; dropping = dropping })
 read_in_place old rest dropping end line front is past same = record {
@@ -237,13 +240,14 @@ read_in_place old rest dropping end line front is past same = record {
 
 -- a line of a connection that is read in place
 pub called_in_place :
-    (old : Held) (rest : List ℕ) (dropping : Bool) (end : ℕ) (reading : Result CallLine Refusal)
-    → IsFront old end → reading ≡ call_read (take end old.rest)
+    (old : CutterView) (rest : List ℕ) (dropping : Bool) (end : ℕ)
+    (reading : Result CallLine Refusal)
+    → IsFirstLine old end → reading ≡ call_read (take end old.rest)
     → rest ≡ drop (end + 1) old.rest → dropping ≡ old.dropping
     → IsNextCallLine old reading (record { rest = rest; dropping = dropping })
 called_in_place old rest dropping end reading front is past same = record {
   cut = cut_of (take end old.rest);
-  read = is ∙ sym (ap call_of (cut_in_place old end front));
+  read = is ∙ sym (ap call_of_cut (cut_in_place old end front));
   given = given_in_place old rest dropping end front past same;
 }
 
@@ -260,7 +264,7 @@ front_len n xs le = grind (arith, common_steps)
 
 too_long_by :
     (n : ℕ) (xs : List ℕ) → 128 < n → n ≤ length xs → NoNewline (take n xs)
-    → (more : List ℕ) → lines (xs ++ more) ≡ Long ∷ lines_past_newline (drop n xs ++ more)
+    → (more : List ℕ) → lines (xs ++ more) ≡ Long ∷ lines_after_newline (drop n xs ++ more)
 too_long_by n xs big le none more =
     ap (λ ys. lines (ys ++ more)) (sym (take-append-drop n xs))
     ∙ ap lines (append_assoc (take n xs) (drop n xs) more)
@@ -271,10 +275,10 @@ too_long_by n xs big le none more =
 pub too_long :
     (n : ℕ) (xs ys : List ℕ) → n ≡ 129 → n ≤ length xs → NoNewline (take n xs)
     → ys ≡ drop 129 xs
-    → (more : List ℕ) → lines (xs ++ more) ≡ Long ∷ lines_past_newline (ys ++ more)
+    → (more : List ℕ) → lines (xs ++ more) ≡ Long ∷ lines_after_newline (ys ++ more)
 too_long n xs ys e le none rest more =
     too_long_by n xs (omega arith) le none more
-    ∙ ap (λ zs. Long ∷ lines_past_newline (zs ++ more)) (ap (λ m. drop m xs) e ∙ sym rest)
+    ∙ ap (λ zs. Long ∷ lines_after_newline (zs ++ more)) (ap (λ m. drop m xs) e ∙ sym rest)
 
 last_line :
     (xs : List ℕ) → NoNewline xs → length xs ≤ 128 → 0 < length xs
@@ -286,7 +290,7 @@ last_line (x ∷ xs) none short some =
 by_state :
     (rest : List ℕ) (dropping : Bool) → NoNewline rest → length rest ≤ 128
     → (dropping ≡ true → rest ≡ []) → 0 < length rest
-    → cond dropping (lines_past_newline (rest ++ [])) (lines (rest ++ []))
+    → cond dropping (lines_after_newline (rest ++ [])) (lines (rest ++ []))
     ≡ Line (record { items = rest }) ∷ []
 by_state rest true none short dropped some =
     let empty : length rest ≡ 0 = ap length (dropped refl) in
@@ -295,33 +299,33 @@ by_state rest false none short dropped some = last_line rest none short some
 
 -- the bytes that remain at the end are the last line
 pub at_end :
-    (held : Held) → IsBegun held → 0 < length held.rest
+    (held : CutterView) → HasNoWholeLine held → 0 < length held.rest
     → (text : List ℕ) → text ≡ held.rest
-    → to_come held [] ≡ Line (record { items = text }) ∷ []
+    → lines_to_come held [] ≡ Line (record { items = text }) ∷ []
 at_end held h some text is =
     by_state held.rest held.dropping h.no_newline h.short h.dropped some
     ∙ ap (λ t. Line (record { items = t }) ∷ []) (sym is)
 
 -- the lines of texts, and of the bytes after them
-pub lines-joined :
+pub lines-join_lines :
     (texts : List (List ℕ)) (rest : List ℕ) → AllTexts texts → NoNewline rest
-    → lines (joined texts rest) ≡ map cut_of texts ++ last_of rest
-lines-joined [] [] all none = refl
-lines-joined [] (b ∷ rest) all none =
+    → lines (join_lines texts rest) ≡ map cut_of texts ++ last_of rest
+lines-join_lines [] [] all none = refl
+lines-join_lines [] (b ∷ rest) all none =
     ap lines (sym (append-nil (b ∷ rest))) ∙ lines_after-append [] (b ∷ rest) [] none
-lines-joined (text ∷ texts) rest all none =
-    lines_after-newline [] text (joined texts rest) all.0
-    ∙ ap (λ ls. cut_of text ∷ ls) (lines-joined texts rest all.1 none)
+lines-join_lines (text ∷ texts) rest all none =
+    lines_after-newline [] text (join_lines texts rest) all.0
+    ∙ ap (λ ls. cut_of text ∷ ls) (lines-join_lines texts rest all.1 none)
 
 -- the bytes that remain after a line and its newline are dropped
 pub front_dropped :
-    (inside old : Held) (rest : List ℕ) (end : ℕ) → inside ≡ old → IsFront old end
+    (inside old : CutterView) (rest : List ℕ) (end : ℕ) → inside ≡ old → IsFirstLine old end
     → rest ≡ drop (end + 1) inside.rest
-    → (held_of rest inside.dropping ≡ past_line old end) × (length rest < length old.rest)
+    → (held_of rest inside.dropping ≡ after_line old end) × (length rest < length old.rest)
 front_dropped inside old rest end same front past =
     let now : rest ≡ drop (end + 1) old.rest =
-    past ∙ ap (λ (h : Held). drop (end + 1) h.rest) same in (
+    past ∙ ap (λ (h : CutterView). drop (end + 1) h.rest) same in (
       ap (λ xs. held_of xs inside.dropping) now
-          ∙ ap (λ (h : Held). held_of (drop (end + 1) old.rest) h.dropping) same,
+          ∙ ap (λ (h : CutterView). held_of (drop (end + 1) old.rest) h.dropping) same,
       omega (arith, ap length now, length-drop (end + 1) old.rest, front.within),
     )

@@ -86,8 +86,8 @@ pub length_four_more :
 length_four_more n le fits =
     ap length (decimal_two_pairs n le fits) ∙ length-append (decimal (n / 10000)) _
 
-pub few_digits : (n : ℕ) → n < 1000000 → length (decimal n) ≤ 6
-few_digits n lt = length-decimal-le 6 n (omega arith) lt (omega arith)
+pub short_number_length : (n : ℕ) → n < 1000000 → length (decimal n) ≤ 6
+short_number_length n lt = length-decimal-le 6 n (omega arith) lt (omega arith)
 
 -- three pieces that are appended one after another
 pub joined :

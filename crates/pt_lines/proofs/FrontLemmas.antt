@@ -4,7 +4,7 @@ use Rattle.std.proofs.Common.{◌∷◌, ◌++◌, length, take, drop, min, refl
 use Rattle.std.proofs.Common.{ap, sym, ◌∙◌, arith, length-drop}
 use Rattle.std.proofs.lemmas.Bool.{eqb-true}
 use Rattle.std.proofs.lemmas.List.{length-take-le, take_all}
-use Rattle.pt_grammar.specs.Lines.{Held, lines, lines_past_newline, to_come}
+use Rattle.pt_grammar.specs.Lines.{CutterView, lines, lines_after_newline, lines_to_come}
 
 -- the length of a piece at the start of bytes
 pub front_of : (n : ℕ) (xs ys : List ℕ) → xs ≡ ys → n ≤ length ys → n ≡ length (take n xs)
@@ -49,16 +49,16 @@ pub left_none : (xs ys : List ℕ) → ys ≡ [] → length ys ≤ length xs
 left_none xs ys is = let none = ap length is in omega (arith, none)
 
 -- if nothing is held, no line is to come
-pub nothing_held : (xs : List ℕ) (held : Held) → true ≡ (length xs == 0) → xs ≡ held.rest
-    → to_come held [] ≡ []
+pub nothing_held : (xs : List ℕ) (held : CutterView) → true ≡ (length xs == 0) → xs ≡ held.rest
+    → lines_to_come held [] ≡ []
 nothing_held (x ∷ xs) held empty same =
     let none : length (x ∷ xs) ≡ 0 = eqb-true (length (x ∷ xs)) 0 (sym empty) in
     absurd (omega (arith, none))
 nothing_held [] held empty same =
-    ap (λ rest. cond held.dropping (lines_past_newline (rest ++ [])) (lines (rest ++ [])))
+    ap (λ rest. cond held.dropping (lines_after_newline (rest ++ [])) (lines (rest ++ [])))
     (sym same)
     ∙ by held.dropping
   where
-    by : (b : Bool) → cond b (lines_past_newline []) (lines []) ≡ []
+    by : (b : Bool) → cond b (lines_after_newline []) (lines []) ≡ []
     by true = refl
     by false = refl

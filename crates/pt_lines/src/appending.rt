@@ -49,7 +49,7 @@ pub fn append_filled<A: Allocator + Copy, const N: usize>(
 // Appends two digits. The buffer has room for them.
 #[inline(always)]
 fn append_pair<A: Allocator + Copy>(out: &mut Vec<u8, A>, n: u64)
-    requires below { n < 100 }
+    requires within { n < 100 }
     requires room { vec_len out.old + 2 ≤ vec_capacity out.old }
     ensures items { out.new.items ≡ out.old.items ++ (48 + n / 10) ∷ (48 + n % 10) ∷ [] }
     ensures len { vec_len out.new ≡ vec_len out.old + 2 }
@@ -63,7 +63,7 @@ fn append_pair<A: Allocator + Copy>(out: &mut Vec<u8, A>, n: u64)
 // Appends a number of one or two digits. The buffer has room for it.
 #[inline(always)]
 fn append_below_100<A: Allocator + Copy>(out: &mut Vec<u8, A>, n: u64)
-    requires below { n < 100 }
+    requires within { n < 100 }
     requires room { vec_len out.old + length (decimal n) ≤ vec_capacity out.old }
     ensures items { out.new.items ≡ out.old.items ++ decimal n }
     ensures len { vec_len out.new ≡ vec_len out.old + length (decimal n) }
@@ -79,7 +79,7 @@ fn append_below_100<A: Allocator + Copy>(out: &mut Vec<u8, A>, n: u64)
 // Appends a number of at most four digits. The buffer has room for it.
 #[inline(always)]
 fn append_below_10000<A: Allocator + Copy>(out: &mut Vec<u8, A>, n: u64)
-    requires below { n < 10000 }
+    requires within { n < 10000 }
     requires room { vec_len out.old + length (decimal n) ≤ vec_capacity out.old }
     ensures items { out.new.items ≡ out.old.items ++ decimal n }
     ensures len { vec_len out.new ≡ vec_len out.old + length (decimal n) }
@@ -98,7 +98,7 @@ fn append_below_10000<A: Allocator + Copy>(out: &mut Vec<u8, A>, n: u64)
 #[inline(always)]
 fn append_below_1000000<A: Allocator + Copy>(out: &mut Vec<u8, A>, n: u64)
     requires above { 10000 ≤ n }
-    requires below { n < 1000000 }
+    requires within { n < 1000000 }
     requires room { vec_len out.old + length (decimal n) ≤ vec_capacity out.old }
     ensures items { out.new.items ≡ out.old.items ++ decimal n }
     ensures len { vec_len out.new ≡ vec_len out.old + length (decimal n) }
@@ -114,7 +114,7 @@ fn append_below_1000000<A: Allocator + Copy>(out: &mut Vec<u8, A>, n: u64)
 /// Appends a number of at most six digits. The buffer has room for it.
 #[inline(always)]
 pub fn append_number<A: Allocator + Copy>(out: &mut Vec<u8, A>, n: u64)
-    requires below { n < 1000000 }
+    requires within { n < 1000000 }
     requires room { vec_len out.old + length (decimal n) ≤ vec_capacity out.old }
     ensures items { out.new.items ≡ out.old.items ++ decimal n }
     ensures len { vec_len out.new ≡ vec_len out.old + length (decimal n) }

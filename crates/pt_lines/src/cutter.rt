@@ -5,14 +5,15 @@ ghost use Rattle.std.specs.Bool.{OnTrue, OnFalse};
 ghost use Rattle.std.specs.List.{flat_map};
 ghost use Rattle.memchr.specs.Find.{IsFirstByte, is_byte};
 ghost use Rattle.pt_grammar.specs.Cuts.{is_long};
-ghost use Rattle.pt_grammar.specs.Lines.{lines, lines_past_newline, to_come, NoNewline, IsBegun};
+ghost use Rattle.pt_grammar.specs.Lines.{lines, lines_after_newline, lines_to_come, NoNewline};
+ghost use Rattle.pt_grammar.specs.Lines.{HasNoWholeLine};
 ghost use Rattle.pt_grammar.specs.Lines.{LinesOfTexts};
 
 use arrayvec::ArrayVec;
 use bytes::BytesMut;
 use memchr::memchr;
 use pt_grammar::{CallLine, Cut, ScriptLine, read_call, read_short};
-use pt_types::{MOST_IN_LINE, Refusal};
+use pt_types::{MAX_LINE_LENGTH, Refusal};
 use std::alloc::{Allocator, Global};
 use std::marker::Model;
 use std::simd::prelude::*;
@@ -29,30 +30,30 @@ const LONG_LINE: usize = 64;
 /// too long. Once `next_line` has returned None, it holds at most 128 bytes, and none of a line
 /// that was too long.
 pub struct Cutter<A: Allocator + Copy = Global> {
-    held: BytesMut<A>,
+    buffer: BytesMut<A>,
     dropping: bool,
 }
 
 impl<A: Allocator + Copy> Model for Cutter<A> {
-    ghost use Rattle.pt_grammar.specs.Lines.{Held};
+    ghost use Rattle.pt_grammar.specs.Lines.{CutterView};
 
-    ghost Value = { Held };
+    ghost Value = { CutterView };
 
-    ghost view = { λ c. record { rest = c.held.items; dropping = c.dropping } };
+    ghost view = { λ c. record { rest = c.buffer.items; dropping = c.dropping } };
 }
 
 // Not derived, so that code that drops a cutter proves nothing of its parts.
 impl<A: Allocator + Copy> Drop for Cutter<A> {
     fn drop(self) {
         let Cutter {
-            held: _,
+            buffer: _,
             dropping: _,
         } = self;
     }
 }
 
 // Returns a line of at most 128 bytes.
-fn line_of(text: &[u8]) -> ArrayVec<u8, MOST_IN_LINE>
+fn line_of(text: &[u8]) -> ArrayVec<u8, MAX_LINE_LENGTH>
     requires { length text.now ≤ 128 }
     ensures { result.items ≡ text.now }
 {
@@ -61,45 +62,45 @@ fn line_of(text: &[u8]) -> ArrayVec<u8, MOST_IN_LINE>
 
 // Drops the bytes up to and including the first newline, or all if there is none. Returns whether
 // there was one.
-fn drop_line<A: Allocator + Copy>(held: &mut BytesMut<A>) -> bool
+fn drop_line<A: Allocator + Copy>(buffer: &mut BytesMut<A>) -> bool
     ensures found { OnTrue result ((more : List ℕ) →
-        lines_past_newline (held.old.items ++ more) ≡ lines (held.new.items ++ more)) }
+        lines_after_newline (buffer.old.items ++ more) ≡ lines (buffer.new.items ++ more)) }
     ensures none { OnFalse result ((more : List ℕ) →
-        lines_past_newline (held.old.items ++ more) ≡ lines_past_newline more) }
-    ensures empty { OnFalse result (held.new.items ≡ []) }
-    ensures fewer { length held.new.items ≤ length held.old.items }
+        lines_after_newline (buffer.old.items ++ more) ≡ lines_after_newline more) }
+    ensures empty { OnFalse result (buffer.new.items ≡ []) }
+    ensures fewer { length buffer.new.items ≤ length buffer.old.items }
 {
-    match memchr(b'\n', held.as_slice()) {
+    match memchr(b'\n', buffer.as_slice()) {
         Some(end) => {
-            held.advance(end + 1);
+            buffer.advance(end + 1);
             true
         }
         None => {
-            held.clear();
+            buffer.clear();
             false
         }
     }
 }
 
 // Takes the first line, if it is whole or already too long.
-fn take_line<A: Allocator + Copy>(held: &mut BytesMut<A>) -> Option<Cut>
-    ensures some { IfSome result (λ cut. (more : List ℕ) → lines (held.old.items ++ more)
-        ≡ cut ∷ (if is_long cut then lines_past_newline (held.new.items ++ more)
-        else lines (held.new.items ++ more))) }
-    ensures fewer { OnSome result (length held.new.items < length held.old.items) }
-    ensures none { IfNone result (NoNewline held.old.items × (length held.old.items ≤ 128)
-        × (held.new.items ≡ held.old.items)) }
+fn take_line<A: Allocator + Copy>(buffer: &mut BytesMut<A>) -> Option<Cut>
+    ensures some { IfSome result (λ cut. (more : List ℕ) → lines (buffer.old.items ++ more)
+        ≡ cut ∷ (if is_long cut then lines_after_newline (buffer.new.items ++ more)
+        else lines (buffer.new.items ++ more))) }
+    ensures fewer { OnSome result (length buffer.new.items < length buffer.old.items) }
+    ensures none { IfNone result (NoNewline buffer.old.items × (length buffer.old.items ≤ 128)
+        × (buffer.new.items ≡ buffer.old.items)) }
 {
-    let count = held.len().min(MOST_IN_LINE + 1);
-    let text = held.as_slice();
+    let count = buffer.len().min(MAX_LINE_LENGTH + 1);
+    let text = buffer.as_slice();
     match memchr(b'\n', &text[..count]) {
         Some(end) => {
             let line = line_of(&text[..end]);
-            held.advance(end + 1);
+            buffer.advance(end + 1);
             Some(Cut::Line(line))
         }
-        None if count > MOST_IN_LINE => {
-            held.advance(MOST_IN_LINE + 1);
+        None if count > MAX_LINE_LENGTH => {
+            buffer.advance(MAX_LINE_LENGTH + 1);
             Some(Cut::Long)
         }
         None => None,
@@ -132,7 +133,7 @@ fn newline_in_long(block: &[u8; LONG_LINE]) -> Option<usize>
 }
 
 impl<A: Allocator + Copy> Cutter<A> {
-    ghost use Rattle.pt_grammar.specs.Lines.{IsFront, past_line};
+    ghost use Rattle.pt_grammar.specs.Lines.{IsFirstLine, after_line};
     ghost use Rattle.pt_grammar.specs.Reading.{IsNextCallLine};
     ghost use Rattle.pt_grammar.specs.Script.{IsNextScriptLine, short_read};
 
@@ -141,7 +142,7 @@ impl<A: Allocator + Copy> Cutter<A> {
         ensures { result ≡ record { rest = []; dropping = false } }
     {
         Cutter {
-            held: BytesMut::new(alloc),
+            buffer: BytesMut::new(alloc),
             dropping: false,
         }
     }
@@ -151,10 +152,10 @@ impl<A: Allocator + Copy> Cutter<A> {
     pub fn feed(&mut self, piece: &[u8]) -> Result<(), Refusal>
         ensures ok { OnOk result
             (self.new ≡ record self.old { rest = self.old.rest ++ piece.now }) }
-        ensures err { OnErr result (self.new ≡ self.old) }
-        ensures why { IfErr result (λ refusal. refusal ≡ Refusal.Enomem) }
+        ensures unchanged { OnErr result (self.new ≡ self.old) }
+        ensures err { IfErr result (λ refusal. refusal ≡ Refusal.Enomem) }
     {
-        self.held
+        self.buffer
             .extend_from_slice(piece)
             .map_err(|_| Refusal::Enomem)
     }
@@ -163,31 +164,31 @@ impl<A: Allocator + Copy> Cutter<A> {
     /// nothing.
     pub fn next_line(&mut self) -> Option<Cut>
         ensures given { (more : List ℕ) →
-            to_come self.old more ≡ option_to_list result ++ to_come self.new more }
-        ensures none { IfNone result (IsBegun self.new) }
+            lines_to_come self.old more ≡ option_to_list result ++ lines_to_come self.new more }
+        ensures none { IfNone result (HasNoWholeLine self.new) }
         ensures fewer { OnSome result (length self.new.rest < length self.old.rest) }
     {
         if self.dropping {
-            if !drop_line(&mut self.held) {
+            if !drop_line(&mut self.buffer) {
                 return None;
             }
             self.dropping = false;
         }
-        let cut = take_line(&mut self.held)?;
+        let cut = take_line(&mut self.buffer)?;
         if let Cut::Long = cut {
             self.dropping = true;
         }
         Some(cut)
     }
 
-    // Returns the place of the first line's newline, if it is among the first `most` bytes.
-    fn newline_within(&self, most: usize) -> Option<usize>
-        requires short { most ≤ 129 }
-        requires whole { self.now.dropping ≡ false }
-        ensures { IfSome result (IsFront self.now) }
+    // Returns the place of the first line's newline, if it is among the first `limit` bytes.
+    fn newline_within(&self, limit: usize) -> Option<usize>
+        requires short { limit ≤ 129 }
+        requires valid { self.now.dropping ≡ false }
+        ensures { IfSome result (IsFirstLine self.now) }
     {
-        let count = self.held.len().min(most);
-        let text = self.held.as_slice();
+        let count = self.buffer.len().min(limit);
+        let text = self.buffer.as_slice();
         memchr(b'\n', &text[..count])
     }
 
@@ -195,9 +196,9 @@ impl<A: Allocator + Copy> Cutter<A> {
     // have at most this many.
     fn newline_near(&self) -> Option<usize>
         requires { self.now.dropping ≡ false }
-        ensures { IfSome result (IsFront self.now) }
+        ensures { IfSome result (IsFirstLine self.now) }
     {
-        match self.held.as_slice().first_chunk::<SHORT_LINE>() {
+        match self.buffer.as_slice().first_chunk::<SHORT_LINE>() {
             Some(block) => newline_in(block),
             None => self.newline_within(SHORT_LINE),
         }
@@ -207,9 +208,9 @@ impl<A: Allocator + Copy> Cutter<A> {
     // these have come.
     fn newline_far(&self) -> Option<usize>
         requires { self.now.dropping ≡ false }
-        ensures { IfSome result (IsFront self.now) }
+        ensures { IfSome result (IsFirstLine self.now) }
     {
-        let block = self.held.as_slice().first_chunk::<LONG_LINE>()?;
+        let block = self.buffer.as_slice().first_chunk::<LONG_LINE>()?;
         newline_in_long(block)
     }
 
@@ -218,11 +219,11 @@ impl<A: Allocator + Copy> Cutter<A> {
     #[inline(never)]
     fn newline_later(&self) -> Option<usize>
         requires { self.now.dropping ≡ false }
-        ensures { IfSome result (IsFront self.now) }
+        ensures { IfSome result (IsFirstLine self.now) }
     {
         match self.newline_far() {
             Some(end) => Some(end),
-            None => self.newline_within(MOST_IN_LINE + 1),
+            None => self.newline_within(MAX_LINE_LENGTH + 1),
         }
     }
 
@@ -230,7 +231,7 @@ impl<A: Allocator + Copy> Cutter<A> {
     // bytes are searched first, since most lines are short and fewer steps are then needed.
     #[inline(always)]
     fn front(&self) -> Option<usize>
-        ensures { IfSome result (IsFront self.now) }
+        ensures { IfSome result (IsFirstLine self.now) }
     {
         if self.dropping {
             return None;
@@ -244,38 +245,38 @@ impl<A: Allocator + Copy> Cutter<A> {
     /// Returns the text of the next line, if the line is whole and not too long. It is not copied.
     pub fn front_text(&self) -> Option<&[u8]>
         ensures line { IfSome result (λ text. IsNextScriptLine self.now (short_read text.now)
-            (past_line self.now (length text.now))) }
-        ensures front { IfSome result (λ text. IsFront self.now (length text.now)) }
+            (after_line self.now (length text.now))) }
+        ensures front { IfSome result (λ text. IsFirstLine self.now (length text.now)) }
     {
         let end = self.front()?;
-        Some(&self.held.as_slice()[..end])
+        Some(&self.buffer.as_slice()[..end])
     }
 
     /// Drops the next line. Its text has length `len`.
     pub fn drop_front(&mut self, len: usize)
-        requires { IsFront self.old len }
-        ensures line { self.new ≡ past_line self.old len }
+        requires { IsFirstLine self.old len }
+        ensures line { self.new ≡ after_line self.old len }
         ensures fewer { length self.new.rest < length self.old.rest }
     {
-        self.held.advance(len + 1);
+        self.buffer.advance(len + 1);
     }
 
     /// Reads the next line as one of a script, as soon as `next_line` would return it. A whole line
     /// is not copied, and nothing is allocated.
     pub fn next_script_line(&mut self) -> Option<ScriptLine>
         ensures some { IfSome result (λ line. IsNextScriptLine self.old line self.new) }
-        ensures none { IfNone result (IsBegun self.new) }
-        ensures same { IfNone result
-            ((more : List ℕ) → to_come self.old more ≡ to_come self.new more) }
+        ensures none { IfNone result (HasNoWholeLine self.new) }
+        ensures unchanged { IfNone result
+            ((more : List ℕ) → lines_to_come self.old more ≡ lines_to_come self.new more) }
         ensures fewer { OnSome result (length self.new.rest < length self.old.rest) }
     {
         let Some(end) = self.front() else {
             let cut = self.next_line()?;
             return Some(ScriptLine::of(&cut));
         };
-        let text = self.held.as_slice();
+        let text = self.buffer.as_slice();
         let line = read_short(&text[..end]);
-        self.held.advance(end + 1);
+        self.buffer.advance(end + 1);
         Some(line)
     }
 
@@ -283,31 +284,31 @@ impl<A: Allocator + Copy> Cutter<A> {
     /// line is not copied, and nothing is allocated.
     pub fn next_call_line(&mut self) -> Option<Result<CallLine, Refusal>>
         ensures some { IfSome result (λ reading. IsNextCallLine self.old reading self.new) }
-        ensures none { IfNone result (IsBegun self.new) }
-        ensures same { IfNone result
-            ((more : List ℕ) → to_come self.old more ≡ to_come self.new more) }
+        ensures none { IfNone result (HasNoWholeLine self.new) }
+        ensures unchanged { IfNone result
+            ((more : List ℕ) → lines_to_come self.old more ≡ lines_to_come self.new more) }
         ensures fewer { OnSome result (length self.new.rest < length self.old.rest) }
     {
         let Some(end) = self.front() else {
             let cut = self.next_line()?;
             return Some(CallLine::of(&cut));
         };
-        let text = self.held.as_slice();
+        let text = self.buffer.as_slice();
         let reading = read_call(&text[..end]);
-        self.held.advance(end + 1);
+        self.buffer.advance(end + 1);
         Some(reading)
     }
 
     /// Returns the last line, if no newline ended it. Returns None if nothing is left of the input,
     /// or only a line that was given as too long. It allocates nothing.
     pub fn finish(self) -> Option<Cut>
-        requires { IsBegun self }
-        ensures { to_come self [] ≡ option_to_list result }
+        requires { HasNoWholeLine self }
+        ensures { lines_to_come self [] ≡ option_to_list result }
     {
-        if self.held.is_empty() {
+        if self.buffer.is_empty() {
             return None;
         }
-        Some(Cut::Line(line_of(self.held.as_slice())))
+        Some(Cut::Line(line_of(self.buffer.as_slice())))
     }
 }
 
@@ -322,7 +323,7 @@ pub fn lines_of_texts()
 pub fn cut_all<A: Allocator + Copy>(alloc: A, pieces: &[&[u8]]) -> Result<Vec<Cut, A>, Refusal>
     ensures ok { IfOk result
         (λ cuts. cuts.items ≡ lines (flat_map (λ piece. piece.now) pieces.now)) }
-    ensures why { IfErr result (λ refusal. refusal ≡ Refusal.Enomem) }
+    ensures err { IfErr result (λ refusal. refusal ≡ Refusal.Enomem) }
 {
     let mut cuts = Vec::new(alloc);
     let mut cutter = Cutter::new(alloc);

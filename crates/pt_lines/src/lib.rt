@@ -14,7 +14,7 @@ mod reply;
 pub use cutter::{Cutter, cut_all, lines_of_texts};
 pub use pt_grammar::{
     CallLine, ClientName, Cut, ScriptBody, ScriptLine, Who, barrier_init_at_start, moment_at_start,
-    mutex_init_at_start, named_at_start, read_call, read_client, read_said, read_script_line,
-    timed_at_start, timedwait_at_start, wait_at_start,
+    mutex_init_at_start, named_at_start, read_call, read_client, read_script_body,
+    read_script_line, timed_at_start, timedwait_at_start, wait_at_start,
 };
 pub use reply::{Word, write_reply};

@@ -11,13 +11,13 @@ use pt_types::{Outcome, Refusal};
 use std::alloc::Allocator;
 
 // The least number with more than six digits. Few lines have such a number.
-const FEW_DIGITS_END: u64 = 1_000_000;
+const SHORT_NUMBER_END: u64 = 1_000_000;
 
 // The most bytes that an answer has if its number has few digits.
-const MOST_OF_FEW: usize = 32;
+const MAX_SHORT_REPLY: usize = 32;
 
 // The most bytes that a word and a newline have.
-const MOST_OF_WORD: usize = 16;
+const MAX_WORD_LENGTH: usize = 16;
 
 /// The answer to a line: the outcome of an accepted call, or why the line is not accepted.
 #[derive(Clone, Copy)]
@@ -32,7 +32,7 @@ impl Word {
     /// Returns the word that is printed for it, which has at most 15 bytes.  [profile]
     pub fn text(self) -> &'static str
         ensures value { result.now ≡ answer_word self }
-        ensures short { length result.now ≤ 15 }
+        ensures within { length result.now ≤ 15 }
     {
         match self {
             Word::Outcome(outcome) => outcome.word(),
@@ -44,7 +44,7 @@ impl Word {
 // Returns the number of bytes that precede the line's number.
 fn sender_len(who: Option<&Who>) -> usize
     ensures len { result ≡ length (sender (option_copied who.entry)) }
-    ensures short { result ≤ 9 }
+    ensures within { result ≤ 9 }
 {
     match who {
         Some(who) => who.as_bytes().len() + 1,
@@ -83,7 +83,7 @@ fn append_sender<A: Allocator + Copy>(out: &mut Vec<u8, A>, who: Option<&Who>)
 fn append_who<A: Allocator + Copy>(out: &mut Vec<u8, A>, who: Option<&Who>)
     requires { vec_len out.old + 9 ≤ vec_capacity out.old }
     ensures items { out.new.items ≡ out.old.items ++ sender (option_copied who.entry) }
-    ensures short { vec_len out.new ≤ vec_len out.old + 9 }
+    ensures within { vec_len out.new ≤ vec_len out.old + 9 }
     ensures capacity { vec_capacity out.new ≡ vec_capacity out.old }
 {
     if let Some(who) = who {
@@ -94,8 +94,8 @@ fn append_who<A: Allocator + Copy>(out: &mut Vec<u8, A>, who: Option<&Who>)
 }
 
 // Returns an outcome's word and a newline, padded to a full block, and the number of their bytes.
-fn filled_outcome(outcome: Outcome) -> (&'static [u8; MOST_OF_WORD], usize)
-    ensures short { result.1 ≤ 16 }
+fn filled_outcome(outcome: Outcome) -> (&'static [u8; MAX_WORD_LENGTH], usize)
+    ensures within { result.1 ≤ 16 }
     ensures value { take result.1 result.0.now ≡ outcome_word outcome ++ 10 ∷ [] }
 {
     match outcome {
@@ -113,8 +113,8 @@ fn filled_outcome(outcome: Outcome) -> (&'static [u8; MOST_OF_WORD], usize)
 }
 
 // Does what filled_outcome does, for a refusal.
-fn filled_refusal(refusal: Refusal) -> (&'static [u8; MOST_OF_WORD], usize)
-    ensures short { result.1 ≤ 16 }
+fn filled_refusal(refusal: Refusal) -> (&'static [u8; MAX_WORD_LENGTH], usize)
+    ensures within { result.1 ≤ 16 }
     ensures value { take result.1 result.0.now ≡ refusal_word refusal ++ 10 ∷ [] }
 {
     match refusal {
@@ -130,8 +130,8 @@ fn filled_refusal(refusal: Refusal) -> (&'static [u8; MOST_OF_WORD], usize)
 }
 
 // Does what filled_outcome does, for any word.
-fn filled(word: Word) -> (&'static [u8; MOST_OF_WORD], usize)
-    ensures short { result.1 ≤ 16 }
+fn filled(word: Word) -> (&'static [u8; MAX_WORD_LENGTH], usize)
+    ensures within { result.1 ≤ 16 }
     ensures value { take result.1 result.0.now ≡ answer_word word ++ 10 ∷ [] }
 {
     match word {
@@ -160,9 +160,9 @@ fn write_any<A: Allocator + Copy>(
 ) -> Result<(), Refusal>
     ensures ok { OnOk result
         (out.new.items ≡ out.old.items ++ reply_line (option_copied who.entry) n word) }
-    ensures err { OnErr result (out.new.items ≡ out.old.items) }
-    ensures why { IfErr result (λ refusal. refusal ≡ Refusal.Enomem) }
-    ensures enough { vec_len out.old + length (reply_line (option_copied who.entry) n word)
+    ensures unchanged { OnErr result (out.new.items ≡ out.old.items) }
+    ensures err { IfErr result (λ refusal. refusal ≡ Refusal.Enomem) }
+    ensures succeeds_if { vec_len out.old + length (reply_line (option_copied who.entry) n word)
         ≤ vec_capacity out.old → IsOk result }
 {
     let mut digits = Buffer::new();
@@ -183,9 +183,9 @@ fn write_any<A: Allocator + Copy>(
 // Appends the answer `0` to a client's line. The buffer has room for it. Most answers are of this
 // kind.
 #[inline(always)]
-#[tactic(auto, using(crate::proofs::DigitLemmas::few_digits))]
+#[tactic(auto, using(crate::proofs::DigitLemmas::short_number_length))]
 fn append_done<A: Allocator + Copy>(out: &mut Vec<u8, A>, name: &ClientName, n: u64)
-    requires below { n < 1000000 }
+    requires within { n < 1000000 }
     requires room { vec_len out.old + 32 ≤ vec_capacity out.old }
     ensures { out.new.items ≡ out.old.items
         ++ reply_line (Some (Who.Named name.now)) n (Word.Outcome Outcome.Done) }
@@ -200,9 +200,9 @@ fn append_done<A: Allocator + Copy>(out: &mut Vec<u8, A>, name: &ClientName, n: 
 }
 
 // Appends an answer whose number has few digits. The buffer has room for it.
-#[tactic(auto, using(crate::proofs::DigitLemmas::few_digits))]
+#[tactic(auto, using(crate::proofs::DigitLemmas::short_number_length))]
 fn append_other<A: Allocator + Copy>(out: &mut Vec<u8, A>, who: Option<&Who>, n: u64, word: Word)
-    requires below { n < 1000000 }
+    requires within { n < 1000000 }
     requires room { vec_len out.old + 32 ≤ vec_capacity out.old }
     ensures { out.new.items ≡ out.old.items ++ reply_line (option_copied who.entry) n word }
 {
@@ -224,12 +224,12 @@ fn write_other<A: Allocator + Copy>(
 ) -> Result<(), Refusal>
     ensures ok { OnOk result
         (out.new.items ≡ out.old.items ++ reply_line (option_copied who.entry) n word) }
-    ensures err { OnErr result (out.new.items ≡ out.old.items) }
-    ensures why { IfErr result (λ refusal. refusal ≡ Refusal.Enomem) }
-    ensures enough { vec_len out.old + length (reply_line (option_copied who.entry) n word)
+    ensures unchanged { OnErr result (out.new.items ≡ out.old.items) }
+    ensures err { IfErr result (λ refusal. refusal ≡ Refusal.Enomem) }
+    ensures succeeds_if { vec_len out.old + length (reply_line (option_copied who.entry) n word)
         ≤ vec_capacity out.old → IsOk result }
 {
-    if n >= FEW_DIGITS_END || out.capacity() - out.len() < MOST_OF_FEW {
+    if n >= SHORT_NUMBER_END || out.capacity() - out.len() < MAX_SHORT_REPLY {
         return write_any(out, who, n, word);
     }
     append_other(out, who, n, word);
@@ -248,14 +248,14 @@ pub fn write_reply<A: Allocator + Copy>(
 ) -> Result<(), Refusal>
     ensures ok { OnOk result
         (out.new.items ≡ out.old.items ++ reply_line (option_copied who.entry) n word) }
-    ensures err { OnErr result (out.new.items ≡ out.old.items) }
-    ensures why { IfErr result (λ refusal. refusal ≡ Refusal.Enomem) }
-    ensures enough { vec_len out.old + length (reply_line (option_copied who.entry) n word)
+    ensures unchanged { OnErr result (out.new.items ≡ out.old.items) }
+    ensures err { IfErr result (λ refusal. refusal ≡ Refusal.Enomem) }
+    ensures succeeds_if { vec_len out.old + length (reply_line (option_copied who.entry) n word)
         ≤ vec_capacity out.old → IsOk result }
 {
     if let (Some(Who::Named(name)), Word::Outcome(Outcome::Done)) = (who, word)
-        && n < FEW_DIGITS_END
-        && out.capacity() - out.len() >= MOST_OF_FEW
+        && n < SHORT_NUMBER_END
+        && out.capacity() - out.len() >= MAX_SHORT_REPLY
     {
         append_done(out, name, n);
         return Ok(());

@@ -16,16 +16,17 @@ use Rattle.pt_model.specs.Objects.{is_class, kind_of}
 use Rattle.pt_model.specs.declared.waiting_call.WaitingCall.{WaitingCall}
 use Rattle.pt_model.specs.declared.waiting_call.Move.{Move}
 use Rattle.pt_model.specs.Answers.{open_calls}
-use Rattle.pt_model.specs.Moves.{has_place, arrival_by, cause_by, move_or, moved, at_object}
+use Rattle.pt_model.specs.Moves.{has_place, arrival_by, cause_by, move_or, wait_move, wait_object}
 use Rattle.pt_model.specs.Steps.{Follows}
 use Rattle.pt_model.proofs.Sound.{Fresh-follows, below_open}
 use Rattle.pt_model.proofs.Seats.{seat, housed}
-use Rattle.pt_machine.specs.Queued.{waiter}
+use Rattle.pt_machine.specs.CallQueues.{waiter}
 
 -- a call was moved by an entry of the history, also after one more entry
 moved_step : (h : History) (e : Entry) (j : ℕ) (v : Move)
-    → (moved h j ≡ Some v → v.at < place h) → moved (h ▷ e) j ≡ Some v → v.at < place (h ▷ e)
-moved_step h e j v before m = go (cause_by h (moved h) e j) (moved h j) before m
+    → (wait_move h j ≡ Some v → v.at < place h) → wait_move (h ▷ e) j ≡ Some v
+    → v.at < place (h ▷ e)
+moved_step h e j v before m = go (cause_by h (wait_move h) e j) (wait_move h j) before m
   where
     go : (x : Option Cause) (o : Option Move) → (o ≡ Some v → v.at < place h)
         → move_or (place h) x o ≡ Some v → v.at < suc (place h)
@@ -36,31 +37,31 @@ kept_move : (b : Bool) (o : Option Move) (v : Move) → cond b o None ≡ Some v
 kept_move true o v e = e
 kept_move false o v e = absurd cc
 
-pub moved-below : (h : History) → Follows h → (j : ℕ) (v : Move) → moved h j ≡ Some v
+pub wait_move-below : (h : History) → Follows h → (j : ℕ) (v : Move) → wait_move h j ≡ Some v
     → v.at < place h
-moved-below h f =
-    by_steps (λ h. (j : ℕ) (v : Move) → moved h j ≡ Some v → v.at < place h)
+wait_move-below h f =
+    by_steps (λ h. (j : ℕ) (v : Move) → wait_move h j ≡ Some v → v.at < place h)
     (λ j v e. absurd cc) (λ h e f b s j v m. moved_step h e j v (b j v) m)
-    (λ h f b j v m. b j v (kept_move (has_place (open_calls h) j) (moved h j) v m)) h f
+    (λ h f b j v m. b j v (kept_move (has_place (open_calls h) j) (wait_move h j) v m)) h f
 
 -- an open call arrived with an entry of the history
 pub arrival-below : (h : History) → Follows h → (w : WaitingCall) → In w (open_calls h)
-    → (arrival_by (moved h w.place) w.place).0 < place h
-arrival-below h f w i = go (moved h w.place) refl
+    → (arrival_by (wait_move h w.place) w.place).0 < place h
+arrival-below h f w i = go (wait_move h w.place) refl
   where
-    go : (o : Option Move) → moved h w.place ≡ o → (arrival_by o w.place).0 < place h
+    go : (o : Option Move) → wait_move h w.place ≡ o → (arrival_by o w.place).0 < place h
     go None e = (below_open h w (Fresh-follows h f) i).0
-    go (Some v) e = moved-below h f w.place v e
+    go (Some v) e = wait_move-below h f w.place v e
 
 -- so did each waiter in a queue
 pub waiters-below :
     (h : History) (queue : ℕ → List Waiter) → Follows h
-    → Members (at_object h) (waiter h) (open_calls h) queue
+    → Members (wait_object h) (waiter h) (open_calls h) queue
     → (q : ℕ) → Each (λ v. v.moved < place h) (queue q)
-waiters-below h queue f k q = each (queue q) (λ v i. one v (k.known q v i))
+waiters-below h queue f k q = each (queue q) (λ v i. one v (k.has_call q v i))
   where
     one : (v : Waiter)
-        → (w : WaitingCall) × Among w (open_calls h) × (at_object h w ≡ q) × (v ≡ waiter h w)
+        → (w : WaitingCall) × Among w (open_calls h) × (wait_object h w ≡ q) × (v ≡ waiter h w)
         → v.moved < place h
     one v r = subst (λ (x : Waiter). x.moved < place h) (sym r.3) (arrival-below h f r.0 r.1)
 
@@ -71,17 +72,17 @@ waiters-below h queue f k q = each (queue q) (λ v i. one v (k.known q v i))
 
 -- a call that has just come arrives at its own place
 pub arrival-new : (h : History) → Follows h → (w : WaitingCall) → w.place ≡ place h
-    → (arrival_by (moved h w.place) w.place).0 ≡ place h
+    → (arrival_by (wait_move h w.place) w.place).0 ≡ place h
 arrival-new h f w e =
-    let still : moved h w.place ≡ None =
+    let still : wait_move h w.place ≡ None =
     (Fresh-follows h f).moves w.place (omega (arith, e)) in
     rw still e
 
 -- the object of an open call exists
 pub object-there : (h : History) → Follows h → (w : WaitingCall) → In w (open_calls h)
-    → is_some (kind_of h (at_object h w)) ≡ true
+    → is_some (kind_of h (wait_object h w)) ≡ true
 object-there h f w i =
-    there (kind_of h (at_object h w)) (seat w.role (moved h w.place)) (housed h f w i).0
+    there (kind_of h (wait_object h w)) (seat w.role (wait_move h w.place)) (housed h f w i).0
   where
     there : (o : Option ObjectKind) (s : ObjectClass) → is_class o s ≡ true → is_some o ≡ true
     there None s e = absurd cc

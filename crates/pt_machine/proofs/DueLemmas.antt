@@ -9,14 +9,14 @@ use Rattle.pt_types.specs.declared.outcome.Outcome.{Outcome}
 use Rattle.pt_types.specs.declared.time.Clock.{Clock}
 use Rattle.pt_types.specs.declared.time.Clock.TheVariants.{Real, Mono}
 use Rattle.pt_types.specs.Operations.{same_clock}
-use Rattle.pt_types.specs.Times.{Timespec, deadline_nanos, has_bad_deadline, pair_before}
+use Rattle.pt_types.specs.Times.{Timespec, deadline_nanos, has_invalid_deadline, pair_before}
 use Rattle.pt_timers.specs.Deadlines.{deadline_at, moments, is_reached, IsLeastDue, IsLeast}
 use Rattle.pt_model.specs.declared.entry.Entry.TheVariants.{Grant}
 use Rattle.pt_model.specs.Searches.{In, first_below, least}
 use Rattle.pt_model.specs.Histories.{History, place}
 use Rattle.pt_model.specs.Clients.{clock, is_due}
 use Rattle.pt_model.specs.declared.waiting_call.WaitingCall.{WaitingCall}
-use Rattle.pt_model.specs.WaitingCall.{at_place}
+use Rattle.pt_model.specs.WaitingCall.{call_at_place}
 use Rattle.pt_model.specs.Answers.{open_calls}
 use Rattle.pt_model.specs.Moves.{is_moved}
 use Rattle.pt_model.specs.Grants.{grant_outcome}
@@ -31,7 +31,8 @@ use Rattle.pt_model.proofs.Found.{one_open}
 use Rattle.pt_state.specs.declared.state.State.{State}
 use Rattle.pt_state.specs.Clocks.{AreClocks}
 use Rattle.pt_state.proofs.ServingOrders.{expires-one}
-use Rattle.pt_machine.specs.Timed.{timed, is_set, setting, setting_if, AreTimed, IsFirstLate}
+use Rattle.pt_machine.specs.CallDeadlines.{call_deadline, has_timer, timer_of_call, timer_of_found}
+use Rattle.pt_machine.specs.CallDeadlines.{AreDeadlinesSet, IsFirstOverdue}
 use Rattle.pt_machine.proofs.NoBadDeadlines.{grants-bad}
 use Rattle.pt_machine.proofs.OpenPlaces.{place-in, place-one}
 
@@ -99,26 +100,28 @@ least_at lt o ws w i first one = go (least lt ws) refl
 module _ (h : History) (f : Follows h) where
   -- if no call is to be served, the deadline of each open call that has one is a time
   pub unserved-good : forced_service h ≡ None → (w : WaitingCall) → In w (open_calls h)
-      → has_bad_deadline (timed h w.place) ≡ false
+      → has_invalid_deadline (call_deadline h w.place) ≡ false
   unserved-good n w i =
-      false_by (has_bad_deadline (timed h w.place))
+      false_by (has_invalid_deadline (call_deadline h w.place))
       (λ bad. not_granted (first_below (place h) (is_orphan h))
       (least expires_before (filter (is_overdue h) (open_calls h))) w.place (grant_outcome h w)
       (ap (λ o. option_or o (option_or (forced_yield h) (forced_expire h))) (sym n)
       ∙ grants-bad h f w i bad))
 
-  module _ (ts : List (ℕ × (Clock × ℕ))) (kept : AreTimed h ts)
-      (good : (w : WaitingCall) → In w (open_calls h) → has_bad_deadline (timed h w.place) ≡ false)
+  module _ (ts : List (ℕ × (Clock × ℕ))) (kept : AreDeadlinesSet h ts)
+      (good : (w : WaitingCall) → In w (open_calls h)
+      → has_invalid_deadline (call_deadline h w.place) ≡ false)
     where
       -- the deadline of an open call that was not moved is set
       set_for : (w : WaitingCall) → In w (open_calls h) → not (is_moved h w) ≡ true
-          → deadline_at ts w.place ≡ setting w
+          → deadline_at ts w.place ≡ timer_of_call w
       set_for w i still =
-          let t : is_set h w ≡ true = and_from (not (is_moved h w)) _ still (ap not (good w i)) in
+          let t : has_timer h w ≡ true = and_from (not (is_moved h w)) _ still (ap not
+          (good w i)) in
           kept w.place
-          ∙ ap setting_if (place-one w.place (filter (is_set h) (open_calls h)) w
-          (filter-in (is_set h) (open_calls h) w i t) refl
-          (λ v j at. one_open h f v w (In-filter (is_set h) (open_calls h) v j).0 i at))
+          ∙ ap timer_of_found (place-one w.place (filter (has_timer h) (open_calls h)) w
+          (filter-in (has_timer h) (open_calls h) w i t) refl
+          (λ v j at. one_open h f v w (In-filter (has_timer h) (open_calls h) v j).0 i at))
 
       -- a deadline that is set is that of such a call
       abbrev SetBy : ℕ → Clock → ℕ → Type 0
@@ -128,14 +131,14 @@ module _ (h : History) (f : Follows h) where
 
       set_by : (p : ℕ) (k : Clock) (m : ℕ) → deadline_at ts p ≡ Some (k, m) → SetBy p k m
       set_by p k m e =
-          go (at_place p (filter (is_set h) (open_calls h))) refl (sym (kept p) ∙ e)
+          go (call_at_place p (filter (has_timer h) (open_calls h))) refl (sym (kept p) ∙ e)
         where
-          go : (o : Option WaitingCall) → at_place p (filter (is_set h) (open_calls h)) ≡ o
-              → setting_if o ≡ Some (k, m) → SetBy p k m
+          go : (o : Option WaitingCall) → call_at_place p (filter (has_timer h) (open_calls h)) ≡ o
+              → timer_of_found o ≡ Some (k, m) → SetBy p k m
           go None q d = absurd cc
           go (Some w) q d =
-              let r = place-in p (filter (is_set h) (open_calls h)) w q in
-              let i = In-filter (is_set h) (open_calls h) w r.0 in
+              let r = place-in p (filter (has_timer h) (open_calls h)) w q in
+              let i = In-filter (has_timer h) (open_calls h) w r.0 in
               let own = clocked w.clock w.deadline k m d in
               (w, i.0, r.1, (and_parts (not (is_moved h w)) _ i.1).0, own.0, own.1)
 
@@ -166,7 +169,7 @@ module _ (h : History) (f : Follows h) where
 
         -- otherwise the call whose deadline is due first is the one that is overdue first
         first-overdue : (p : ℕ) → IsLeastDue ts now (Some p)
-            → IsFirstLate h (Some p)
+            → IsFirstOverdue h (Some p)
         first-overdue p due =
             let r = set_by p due.0 due.1 due.2 in
             let w = r.0 in
@@ -189,7 +192,7 @@ module _ (h : History) (f : Follows h) where
 
         -- the call whose deadline is due first is overdue first, and if none is due, none is
         -- overdue
-        pub first-late : (found : Option ℕ) → IsLeastDue ts now found → IsFirstLate h found
+        pub first-late : (found : Option ℕ) → IsLeastDue ts now found → IsFirstOverdue h found
         first-late None due = none-overdue due
         first-late (Some p) due = first-overdue p due
 

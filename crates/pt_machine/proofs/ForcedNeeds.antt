@@ -4,7 +4,7 @@ use Rattle.std.proofs.Common.{◌&&◌, ◌||◌, inl, inr, List, [], ◌∷◌,
 use Rattle.std.proofs.Common.{is_some, is_none, filter, refl, ap, ◌∙◌, arith}
 use Rattle.std.proofs.lemmas.Bool.Decides.{nat_tests}
 use Rattle.std.proofs.lemmas.Bool.{and_parts, and_from}
-use Rattle.pt_types.specs.MutexTable.{is_number, is_acquired}
+use Rattle.pt_types.specs.MutexTable.{is_some_number, is_acquired}
 use Rattle.pt_types.specs.declared.operations.ObjectClass.TheVariants.{Mutex as MutexClass}
 use Rattle.pt_model.specs.declared.entry.Entry.{Entry}
 use Rattle.pt_model.specs.declared.entry.Entry.TheVariants.{Grant, Trip, Yield, Expire}
@@ -13,16 +13,17 @@ use Rattle.pt_model.specs.Histories.{History, ◌▷◌, place}
 use Rattle.pt_model.specs.Objects.{kind_of, is_robust}
 use Rattle.pt_model.specs.declared.waiting_call.WaitingCall.{WaitingCall}
 use Rattle.pt_model.specs.declared.waiting_call.Move.{Move}
-use Rattle.pt_model.specs.WaitingCall.{at_place, is_arrival, is_wait, is_wait_if, mutex_of, stood}
+use Rattle.pt_model.specs.WaitingCall.{call_at_place, is_barrier_wait, is_cond_wait}
+use Rattle.pt_model.specs.WaitingCall.{is_cond_wait_if, final_mutex, waiting_calls}
 use Rattle.pt_model.specs.Answers.{at_barrier, open_calls}
-use Rattle.pt_model.specs.Moves.{cause_by_expiry, is_moved, move_or, moved}
+use Rattle.pt_model.specs.Moves.{cause_by_expiry, is_moved, move_or, wait_move}
 use Rattle.pt_model.specs.Mutexes.{owner}
 use Rattle.pt_model.specs.Grants.{grant_outcome}
 use Rattle.pt_model.specs.Forced.{is_dead_if, is_orphan}
 use Rattle.pt_model.specs.Room.{is_robust_owned, need, reserved_for}
 use Rattle.pt_model.specs.Steps.{Step, expires, Follows}
 use Rattle.pt_machine.specs.Reserved.{gives_owner}
-use Rattle.pt_model.proofs.Apart.{Apart, mutex-exists, open_apart, total-one}
+use Rattle.pt_model.proofs.Disjoint.{Apart, mutex-exists, open_apart, total-one}
 use Rattle.pt_model.proofs.Counting.{count_below-same, total}
 use Rattle.pt_model.proofs.Found.{found_open}
 use Rattle.pt_model.proofs.Holders.{owner-grant, owner-trip, owner-yield, owner-same}
@@ -130,19 +131,19 @@ yields_turned h e f kinds k lt owners =
 grant_yields : (h : History) (w : WaitingCall) → Follows h → In w (open_calls h)
     → Step h (Grant w.place (grant_outcome h w))
     → reserved_yields (h ▷ Grant w.place (grant_outcome h w))
-    ≡ reserved_yields h + cond (gives_owner h w (mutex_of w.role w.object)) 1 0
-grant_yields h w f i s = go (mutex_of w.role w.object) refl
+    ≡ reserved_yields h + cond (gives_owner h w (final_mutex w.role w.object)) 1 0
+grant_yields h w f i s = go (final_mutex w.role w.object) refl
   where
     g : History
     g = h ▷ Grant w.place (grant_outcome h w)
 
-    others : (o : Option ℕ) → mutex_of w.role w.object ≡ o → (m : ℕ) → is_number o m ≡ false
+    others : (o : Option ℕ) → final_mutex w.role w.object ≡ o → (m : ℕ) → is_some_number o m ≡ false
         → owner g m ≡ owner h m
     others o e m ne =
         owner-grant h w f i s m
         ∙ ap (λ b. cond b (Some w.client) (owner h m))
-        (ap (λ x. is_acquired (grant_outcome h w) && is_number x m) e
-        ∙ never (is_acquired (grant_outcome h w)) (is_number o m) ne)
+        (ap (λ x. is_acquired (grant_outcome h w) && is_some_number x m) e
+        ∙ never (is_acquired (grant_outcome h w)) (is_some_number o m) ne)
       where
         never : (a b : Bool) → b ≡ false → (a && b) ≡ false
         never true b k = k
@@ -157,7 +158,7 @@ grant_yields h w f i s = go (mutex_of w.role w.object) refl
     counts true false None = refl
     counts true false (Some c) = refl
 
-    go : (o : Option ℕ) → mutex_of w.role w.object ≡ o
+    go : (o : Option ℕ) → final_mutex w.role w.object ≡ o
         → reserved_yields g ≡ reserved_yields h + cond (gives_owner h w o) 1 0
     go None e =
         let same = yields_same h (Grant w.place (grant_outcome h w)) f (λ m. refl)
@@ -171,7 +172,7 @@ grant_yields h w f i s = go (mutex_of w.role w.object) refl
         ≡ cond (is_acquired (grant_outcome h w) && true) (Some w.client) (owner h m) =
         owner-grant h w f i s m
         ∙ ap (λ b. cond (is_acquired (grant_outcome h w) && b) (Some w.client) (owner h m))
-        (ap (λ x. is_number x m) e ∙ here) in
+        (ap (λ x. is_some_number x m) e ∙ here) in
         let one : cond {A = ℕ} (is_robust_owned g m) 1 0
         ≡ cond (is_robust_owned h m) 1 0 + cond (gives_owner h w (Some m)) 1 0 =
         ap (λ o. cond {A = ℕ} (is_robust (kind_of h m) && is_some o) 1 0) after
@@ -183,7 +184,7 @@ grant_yields h w f i s = go (mutex_of w.role w.object) refl
 pub need-grant : (h : History) (w : WaitingCall) → Follows h → In w (open_calls h)
     → Step h (Grant w.place (grant_outcome h w))
     → need (h ▷ Grant w.place (grant_outcome h w)) + reserved_for h w
-    ≡ need h + cond (gives_owner h w (mutex_of w.role w.object)) 1 0
+    ≡ need h + cond (gives_owner h w (final_mutex w.role w.object)) 1 0
 need-grant h w f i s =
     let gone : reserved_in (h ▷ Grant w.place (grant_outcome h w)) + reserved_for h w
     ≡ reserved_in h =
@@ -199,7 +200,8 @@ need-grant h w f i s =
 
 -- a Trip uses what was reserved for the calls at its barrier
 pub need-trip : (h : History) (b : ℕ) → Follows h
-    → ((w : WaitingCall) → In w (open_calls h) → is_arrival w.role ≡ true → is_moved h w ≡ false)
+    → ((w : WaitingCall) → In w (open_calls h) → is_barrier_wait w.role ≡ true → is_moved h w
+    ≡ false)
     → need (h ▷ Trip b) + 3 * length (at_barrier b (open_calls h)) ≡ need h
 need-trip h b f unmoved =
     let gone : reserved_in (h ▷ Trip b) + 3 * length (at_barrier b (open_calls h))
@@ -207,7 +209,7 @@ need-trip h b f unmoved =
     rw (open-trip h b f)
     (total-thrice (reserved_for h) (stands_at_barrier b) (open_calls h)
     (λ w i t. ap (λ m. cond {A = ℕ} m 2 3)
-    (unmoved w i (and_parts (is_arrival w.role) _ t).0))) in
+    (unmoved w i (and_parts (is_barrier_wait w.role) _ t).0))) in
     omega (
       arith,
       need-reserved h,
@@ -236,12 +238,12 @@ need-yield h m f t =
     p : (is_robust (kind_of h m) ≡ true) × (is_dead_if h (owner h m) ≡ true)
     p = and_parts (is_robust (kind_of h m)) (is_dead_if h (owner h m)) t
 
-    made : (o : Option _) → is_robust o ≡ true → is_some o ≡ true
-    made None e = absurd cc
-    made (Some x) e = refl
+    is_queue : (o : Option _) → is_robust o ≡ true → is_some o ≡ true
+    is_queue None e = absurd cc
+    is_queue (Some x) e = refl
 
     below : m < place h
-    below = kind_below h m (Fresh-follows h f) (made (kind_of h m) p.0)
+    below = kind_below h m (Fresh-follows h f) (is_queue (kind_of h m) p.0)
 
     owned : (o : Option ℕ) → is_dead_if h o ≡ true → is_some o ≡ true
     owned None e = absurd cc
@@ -266,20 +268,20 @@ need-yield h m f t =
 
 -- an Expire that moves a wait uses one entry
 expire_waits : (h : History) (w : WaitingCall) → Follows h → In w (open_calls h)
-    → is_moved h w ≡ false → is_wait w.role ≡ true
+    → is_moved h w ≡ false → is_cond_wait w.role ≡ true
     → reserved_in (h ▷ Expire w.place) + 1 ≡ reserved_in h
 expire_waits h w f i un e =
     let same : (w.place == w.place) ≡ true = grind (arith, nat_tests) in
     let three : reserved_for h w ≡ 3 = ap (λ b. cond {A = ℕ} b 2 3) un in
     let two : reserved_for (h ▷ Expire w.place) w ≡ 2 = rw (found_open h f w i, e, same) refl in
     let all : open_calls (h ▷ Expire w.place) ≡ open_calls h =
-    open-expire h w f i ∙ filter-all (λ (v : WaitingCall). is_wait w.role || not
+    open-expire h w f i ∙ filter-all (λ (v : WaitingCall). is_cond_wait w.role || not
     (v.place == w.place)) (open_calls h) (λ v j. rw e refl) in
     let less =
     total-one (reserved_for h) (reserved_for (h ▷ Expire w.place)) (open_calls h) w i
     (open_apart h f) (omega (arith, two, three))
-    (λ v j ne. kept (w.place == v.place) (is_wait_if (at_place w.place (stood h)))
-    (moved h v.place) ne) in
+    (λ v j ne. kept (w.place == v.place) (is_cond_wait_if (call_at_place w.place (waiting_calls h)))
+    (wait_move h v.place) ne) in
     rw all (omega (arith, less))
   where
     kept : (b waits : Bool) (o : Option Move) → b ≡ false
@@ -290,7 +292,7 @@ expire_waits h w f i un e =
 
 -- an Expire that ends another call uses all three entries that were reserved for it
 expire_ends : (h : History) (w : WaitingCall) → Follows h → In w (open_calls h)
-    → is_moved h w ≡ false → is_wait w.role ≡ false
+    → is_moved h w ≡ false → is_cond_wait w.role ≡ false
     → reserved_in (h ▷ Expire w.place) + 3 ≡ reserved_in h
 expire_ends h w f i un e =
     let three : reserved_for h w ≡ 3 = ap (λ b. cond {A = ℕ} b 2 3) un in
@@ -302,9 +304,9 @@ expire_ends h w f i un e =
     let same : total (reserved_for (h ▷ Expire w.place)) ws ≡ total (reserved_for h) ws =
     totals (reserved_for h) (reserved_for (h ▷ Expire w.place)) ws
     (λ v j. ap (λ o. cond {A = ℕ}
-    (is_some (move_or (place h) (cause_by_expiry (w.place == v.place) (is_wait_if o))
-    (moved h v.place))) 2 3) (found_open h f w i)
-    ∙ kept (w.place == v.place) (is_wait w.role) (moved h v.place) e) in
+    (is_some (move_or (place h) (cause_by_expiry (w.place == v.place) (is_cond_wait_if o))
+    (wait_move h v.place))) 2 3) (found_open h f w i)
+    ∙ kept (w.place == v.place) (is_cond_wait w.role) (wait_move h v.place) e) in
     let gone = total-gone (reserved_for h) (open_calls h) w i (open_apart h f) in
     rw left (omega (arith, same, gone, three))
   where
@@ -329,7 +331,7 @@ need_expire h w n f e =
     )
 
 -- the call of an Expire was not moved
-expire_unmoved : (h : History) (j : ℕ) → Step h (Expire j) → is_some (moved h j) ≡ false
+expire_unmoved : (h : History) (j : ℕ) → Step h (Expire j) → is_some (wait_move h j) ≡ false
 expire_unmoved h _ (expires w s i t) =
     go (is_moved h w) (and_parts (not (is_moved h w)) _ t).0
   where
@@ -338,13 +340,13 @@ expire_unmoved h _ (expires w s i t) =
     go false e = refl
 
 pub need-expire_wait : (h : History) (w : WaitingCall) → Follows h → In w (open_calls h)
-    → Step h (Expire w.place) → is_wait w.role ≡ true
+    → Step h (Expire w.place) → is_cond_wait w.role ≡ true
     → need (h ▷ Expire w.place) + 1 ≡ need h
 need-expire_wait h w f i s e =
     need_expire h w 1 f (expire_waits h w f i (expire_unmoved h w.place s) e)
 
 pub need-expire_end : (h : History) (w : WaitingCall) → Follows h → In w (open_calls h)
-    → Step h (Expire w.place) → is_wait w.role ≡ false
+    → Step h (Expire w.place) → is_cond_wait w.role ≡ false
     → need (h ▷ Expire w.place) + 3 ≡ need h
 need-expire_end h w f i s e =
     need_expire h w 3 f (expire_ends h w f i (expire_unmoved h w.place s) e)

@@ -7,7 +7,7 @@ use Rattle.std.proofs.lemmas.Bool.Decides.{nat_tests}
 use Rattle.std.proofs.lemmas.List.Elements.{filter-append}
 use Rattle.std.specs.Prelude.{option_map, unwrap_or}
 use Rattle.std.specs.Option.{option_or}
-use Rattle.pt_types.specs.declared.call.Call.{Call as Asked}
+use Rattle.pt_types.specs.declared.call.Call.{Call as FunctionCall}
 use Rattle.pt_types.specs.declared.call.ObjectKind.{ObjectKind}
 use Rattle.pt_types.specs.declared.call.ObjectKind.TheVariants as kind_is
 use Rattle.pt_types.specs.declared.operations.LockKind.{LockKind}
@@ -15,7 +15,7 @@ use Rattle.pt_types.specs.declared.operations.LockKind.TheVariants.{MutexLock, R
 use Rattle.pt_types.specs.declared.key_order.Key.{Key}
 use Rattle.pt_types.specs.declared.outcome.Outcome.{Outcome}
 use Rattle.pt_types.specs.KeyOrder.{goes_before, goes_before_in_priority}
-use Rattle.pt_types.specs.MutexTable.{after_release, is_lost}
+use Rattle.pt_types.specs.MutexTable.{after_release, is_not_recoverable}
 use Rattle.pt_types.specs.Times.{deadline_nanos}
 use Rattle.pt_types.specs.Operations.{Operation, class_needed, class_of, clock_of, deadline_of}
 use Rattle.pt_types.specs.Operations.{operation}
@@ -26,12 +26,14 @@ use Rattle.pt_model.specs.Searches.{In}
 use Rattle.pt_model.specs.Histories.{History, ◌▷◌, place}
 use Rattle.pt_model.specs.Objects.{kind_of}
 use Rattle.pt_model.specs.declared.waiting_call.WaitingCall.{WaitingCall}
-use Rattle.pt_model.specs.WaitingCall.{entered, is_arrival, is_write, role_needed, stood_by}
-use Rattle.pt_model.specs.WaitingCall.{stood_by_operation}
+use Rattle.pt_model.specs.WaitingCall.{new_waiting_call, is_barrier_wait, is_write_lock}
+use Rattle.pt_model.specs.WaitingCall.{role_of_lock, waiting_calls_by}
+use Rattle.pt_model.specs.WaitingCall.{waiting_calls_by_operation}
 use Rattle.pt_model.specs.Answers.{open_calls}
-use Rattle.pt_model.specs.Moves.{at_object, key, precedes}
-use Rattle.pt_model.specs.Mutexes.{consistency, count, frees, gained, lost, owner, unlocks_to_wait}
-use Rattle.pt_model.specs.Rwlocks.{reader}
+use Rattle.pt_model.specs.Moves.{wait_object, call_key, precedes}
+use Rattle.pt_model.specs.Mutexes.{consistency, mutex_count, frees, lock_count, unlock_count, owner}
+use Rattle.pt_model.specs.Mutexes.{unlocks_to_wait}
+use Rattle.pt_model.specs.Rwlocks.{first_reader}
 use Rattle.pt_model.specs.Forced.{forced, forced_expire, forced_yield, service, service_if}
 use Rattle.pt_model.specs.Grants.{grant_outcome}
 use Rattle.pt_model.specs.Steps.{Step, Follows}
@@ -45,15 +47,16 @@ use Rattle.pt_model.proofs.Orders.{precedes-order}
 use Rattle.pt_model.proofs.Sound.{Fresh-follows, below_open}
 use Rattle.pt_records.proofs.LockViews.{class-found}
 use Rattle.pt_state.proofs.StepLemmas.{called as known_call}
-use Rattle.pt_touched.specs.Candidates.{candidate, candidate_by, candidate_if, comes_back, entering}
-use Rattle.pt_touched.specs.Candidates.{first_at, if_passes, is_write_if, open_call_if}
-use Rattle.pt_touched.specs.Candidates.{reads_again_at}
-use Rattle.pt_touched.specs.Touched.{goal_of_operation, touched}
-use Rattle.pt_touched.proofs.Candidates.{serves_touched}
-use Rattle.pt_touched.proofs.Unchanged.{reader-same, writer-same}
+use Rattle.pt_next_grant.specs.Candidates.{candidate, candidate_by, candidate_if, is_back_at_mutex}
+use Rattle.pt_next_grant.specs.Candidates.{latest_caller}
+use Rattle.pt_next_grant.specs.Candidates.{first_at, if_passes, is_write_if, open_call_if}
+use Rattle.pt_next_grant.specs.Candidates.{is_read_relock_at}
+use Rattle.pt_next_grant.specs.Touched.{goal_of_operation, service_object}
+use Rattle.pt_next_grant.proofs.Candidates.{serves_touched}
+use Rattle.pt_next_grant.proofs.Unchanged.{first_reader-same, write_holder-same}
 use Rattle.pt_machine.specs.GrantedAtOnce.{IsFree, IsGrantedAtOnce}
-use Rattle.pt_machine.specs.Queued.{IsQueued, waiter}
-use Rattle.pt_machine.specs.Timed.{set_at}
+use Rattle.pt_machine.specs.CallQueues.{IsQueued, waiter}
+use Rattle.pt_machine.specs.CallDeadlines.{timer_at}
 use Rattle.pt_machine.proofs.LockClasses.{has_lock}
 use Rattle.pt_machine.proofs.QueueFirsts.{least-open}
 use Rattle.pt_machine.proofs.TimedCalls.{set-left}
@@ -72,7 +75,7 @@ lower a b lt =
     ap (λ t. t || ((a.priority == b.priority) && goes_before_in_priority a b)) no
     ∙ ap (λ t. t && goes_before_in_priority a b) apart
 
-module _ (h : History) (f : Follows h) (c : ℕ) (call : Asked) (had : IsGrantedAtOnce h c call)
+module _ (h : History) (f : Follows h) (c : ℕ) (call : FunctionCall) (acquisition : IsGrantedAtOnce h c call)
     (s : Step h (Call c call None)) where
   -- the history after the call
   abbrev pub after : History
@@ -84,17 +87,18 @@ module _ (h : History) (f : Follows h) (c : ℕ) (call : Asked) (had : IsGranted
   -- the call, as it waits
   abbrev pub comes : WaitingCall
   comes =
-      entered h c had.object (role_needed had.kind) (clock_of call) (deadline_of had.how)
+      new_waiting_call h c acquisition.object (role_of_lock acquisition.kind) (clock_of call) (deadline_of acquisition.how)
 
   opens : open_calls after ≡ open_calls h ++ comes ∷ []
   opens =
-      let known = known_call h c call None s in
-      let may = subst (λ (r : Option Outcome). Allowed h c (effect h c call r)) (sym known.told)
+      let has_call = known_call h c call None s in
+      let may = subst (λ (r : Option Outcome). Allowed h c (effect h c call r)) (sym has_call.replies)
       (allowed h c call) in
-      open-call h c call None (Fresh-follows h f) known.alive may
-      ∙ (ap (λ (d : Operation). open_calls h ++ left_by (stays h c (clock_of call) d)) had.asks
-      ∙ ap (λ o. open_calls h ++ entered h c (unwrap_or o 0) (role_needed had.kind) (clock_of call)
-      (deadline_of had.how) ∷ []) had.found)
+      open-call h c call None (Fresh-follows h f) has_call.alive may
+      ∙ (ap (λ (d : Operation). open_calls h ++ left_by (stays h c (clock_of call) d)) acquisition.has_request
+      ∙ ap (λ o. open_calls h ++ new_waiting_call h c (unwrap_or o 0) (role_of_lock acquisition.kind)
+      (clock_of call)
+      (deadline_of acquisition.how) ∷ []) acquisition.found)
 
   -- it is open
   pub comes-open : In comes (open_calls after)
@@ -103,39 +107,40 @@ module _ (h : History) (f : Follows h) (c : ℕ) (call : Asked) (had : IsGranted
       (In-append_right comes (open_calls h) (comes ∷ []) (inl refl))
 
   -- it is not an arrival
-  pub comes-stays : is_arrival comes.role ≡ false
-  comes-stays = go had.kind
+  pub comes-stays : is_barrier_wait comes.role ≡ false
+  comes-stays = go acquisition.kind
     where
-      go : (k : LockKind) → is_arrival (role_needed k) ≡ false
+      go : (k : LockKind) → is_barrier_wait (role_of_lock k) ≡ false
       go MutexLock = refl
       go ReadLock = refl
       go WriteLock = refl
 
   -- it waits at the lock
-  at : at_object after comes ≡ had.object
-  at = go had.kind
+  at : wait_object after comes ≡ acquisition.object
+  at = go acquisition.kind
     where
       go : (k : LockKind)
-          → at_object after (entered h c had.object (role_needed k) (clock_of call)
-          (deadline_of had.how)) ≡ had.object
+          → wait_object after (new_waiting_call h c acquisition.object (role_of_lock k) (clock_of call)
+          (deadline_of acquisition.how)) ≡ acquisition.object
       go MutexLock = refl
       go ReadLock = refl
       go WriteLock = refl
 
   -- and goes before all others there
   abbrev here : WaitingCall → Bool
-  here w = at_object after w == had.object
+  here w = wait_object after w == acquisition.object
 
-  first : first_at after had.object ≡ Some comes
+  first : first_at after acquisition.object ≡ Some comes
   first =
-      least-open after follows here comes comes-open (eq-eqb (at_object after comes) had.object at)
+      least-open after follows here comes comes-open (eq-eqb
+      (wait_object after comes) acquisition.object at)
       before
     where
       before : (w : WaitingCall) → In w (open_calls after) → here w ≡ true
           → precedes after w comes ≡ false
       before w i t =
           ⊎_elim
-          (λ j. lower (key after w) (key after comes) (had.ahead w j t))
+          (λ j. lower (call_key after w) (call_key after comes) (acquisition.ahead w j t))
           (λ j. ⊎_elim
           (λ (same : w ≡ comes). subst (λ u. precedes after u comes ≡ false) (sym same)
           ((precedes-order after).irreflexive comes))
@@ -144,35 +149,37 @@ module _ (h : History) (f : Follows h) (c : ℕ) (call : Asked) (had : IsGranted
           (subst (λ (ws : List WaitingCall). In w ws) opens i))
 
   -- who holds the lock has not changed
-  stays_locked : unlocks_to_wait h (operation call) had.object ≡ false
-  stays_locked = ap (λ (d : Operation). unlocks_to_wait h d had.object) had.asks
+  stays_locked : unlocks_to_wait h (operation call) acquisition.object ≡ false
+  stays_locked = ap (λ (d : Operation). unlocks_to_wait h d acquisition.object) acquisition.has_request
 
-  counted : (d : ℕ) → count after had.object d ≡ count h had.object d
+  counted : (d : ℕ) → mutex_count after acquisition.object d ≡ mutex_count h acquisition.object d
   counted d =
-      ap (λ b. gained h had.object d
-      - cond (b && (c == d)) (suc (lost h had.object d)) (lost h had.object d)) stays_locked
+      ap (λ b. lock_count h acquisition.object d
+      - cond (b && (c == d)) (suc (unlock_count h acquisition.object d))
+      (unlock_count h acquisition.object d)) stays_locked
 
-  pub owner_kept : owner after had.object ≡ owner h had.object
+  pub owner_kept : owner after acquisition.object ≡ owner h acquisition.object
   owner_kept =
-      owner-same h (Call c call None) had.object f (λ d. ap (nat_lt 0) (counted d))
+      owner-same h (Call c call None) acquisition.object f (λ d. ap (nat_lt 0) (counted d))
 
   -- it is left waiting
-  pub stands : stood_by h (Call c call None) ≡ comes ∷ []
-  stands =
-      ap (stood_by_operation h c (clock_of call)) had.asks
-      ∙ ap (λ o. entered h c (unwrap_or o 0) (role_needed had.kind) (clock_of call)
-      (deadline_of had.how) ∷ []) had.found
+  pub is_waiting : waiting_calls_by h (Call c call None) ≡ comes ∷ []
+  is_waiting =
+      ap (waiting_calls_by_operation h c (clock_of call)) acquisition.has_request
+      ∙ ap (λ o. new_waiting_call h c (unwrap_or o 0) (role_of_lock acquisition.kind) (clock_of call)
+      (deadline_of acquisition.how) ∷ []) acquisition.found
 
-  freed : (k : LockKind) → IsFree h k had.object → IsFree after k had.object
+  freed : (k : LockKind) → IsFree h k acquisition.object → IsFree after k acquisition.object
   freed MutexLock e =
-      ap (λ b. is_lost (cond (frees h had.object c b) (after_release (consistency h had.object))
-      (consistency h had.object)) || is_none (owner after had.object)) stays_locked
-      ∙ (ap (λ o. is_lost (consistency h had.object) || is_none o) owner_kept ∙ e)
+      ap (λ b. is_not_recoverable (cond (frees h acquisition.object c b) (after_release
+      (consistency h acquisition.object))
+      (consistency h acquisition.object)) || is_none (owner after acquisition.object)) stays_locked
+      ∙ (ap (λ o. is_not_recoverable (consistency h acquisition.object) || is_none o) owner_kept ∙ e)
   freed ReadLock e =
-      writer-same h (Call c call None) had.object f (λ d. refl) ∙ e
+      write_holder-same h (Call c call None) acquisition.object f (λ d. refl) ∙ e
   freed WriteLock e = (
-    writer-same h (Call c call None) had.object f (λ d. refl) ∙ e.0,
-    ap is_some (reader-same h (Call c call None) had.object f (λ d. refl)) ∙ e.1,
+    write_holder-same h (Call c call None) acquisition.object f (λ d. refl) ∙ e.0,
+    ap is_some (first_reader-same h (Call c call None) acquisition.object f (λ d. refl)) ∙ e.1,
   )
 
   -- so it is the call that is served there
@@ -181,35 +188,35 @@ module _ (h : History) (f : Follows h) (c : ℕ) (call : Asked) (had : IsGranted
   no_writer false = refl
 
   abbrev again : Option WaitingCall
-  again = if_passes (reads_again_at after had.object) (open_call_if after (entering after))
+  again = if_passes (is_read_relock_at after acquisition.object) (open_call_if after (latest_caller after))
 
-  candidate_is : candidate after had.object ≡ Some comes
+  candidate_is : candidate after acquisition.object ≡ Some comes
   candidate_is =
-      go had.kind refl (freed had.kind had.free) (kind_of h had.object)
-      (class-found h f had.name (class_needed had.kind) had.object had.found)
+      go acquisition.kind refl (freed acquisition.kind acquisition.free) (kind_of h acquisition.object)
+      (class-found h f acquisition.name (class_needed acquisition.kind) acquisition.object acquisition.found)
     where
-      go : (k : LockKind) → had.kind ≡ k → IsFree after k had.object → (o : Option ObjectKind)
+      go : (k : LockKind) → acquisition.kind ≡ k → IsFree after k acquisition.object → (o : Option ObjectKind)
           → option_map class_of o ≡ Some (class_needed k)
-          → candidate_by after had.object o ≡ Some comes
+          → candidate_by after acquisition.object o ≡ Some comes
       go MutexLock e free (Some (kind_is.Mutex q r)) t =
-          ap (λ b. cond b (first_at after had.object) (if_passes (comes_back after had.object)
-          (open_call_if after (owner after had.object)))) free
+          ap (λ b. cond b (first_at after acquisition.object) (if_passes (is_back_at_mutex after acquisition.object)
+          (open_call_if after (owner after acquisition.object)))) free
           ∙ first
       go ReadLock e free (Some kind_is.Rwlock) t =
-          let reads : is_write_if (first_at after had.object) ≡ false =
-          ap is_write_if first ∙ ap (λ (x : LockKind). is_write (role_needed x)) e in
-          ap (λ w. cond (is_some w) None (cond (is_some (reader after had.object)
-          && is_write_if (first_at after had.object)) again (first_at after had.object))) free
-          ∙ (ap (λ b. cond (is_some (reader after had.object) && b) again
-          (first_at after had.object)) reads
-          ∙ (ap (λ b. cond b again (first_at after had.object))
-          (no_writer (is_some (reader after had.object)))
+          let reads : is_write_if (first_at after acquisition.object) ≡ false =
+          ap is_write_if first ∙ ap (λ (x : LockKind). is_write_lock (role_of_lock x)) e in
+          ap (λ w. cond (is_some w) None (cond (is_some (first_reader after acquisition.object)
+          && is_write_if (first_at after acquisition.object)) again (first_at after acquisition.object))) free
+          ∙ (ap (λ b. cond (is_some (first_reader after acquisition.object) && b) again
+          (first_at after acquisition.object)) reads
+          ∙ (ap (λ b. cond b again (first_at after acquisition.object))
+          (no_writer (is_some (first_reader after acquisition.object)))
           ∙ first))
       go WriteLock e free (Some kind_is.Rwlock) t =
-          ap (λ w. cond (is_some w) None (cond (is_some (reader after had.object)
-          && is_write_if (first_at after had.object)) again (first_at after had.object))) free.0
-          ∙ (ap (λ b. cond (b && is_write_if (first_at after had.object)) again
-          (first_at after had.object)) free.1
+          ap (λ w. cond (is_some w) None (cond (is_some (first_reader after acquisition.object)
+          && is_write_if (first_at after acquisition.object)) again (first_at after acquisition.object))) free.0
+          ∙ (ap (λ b. cond (b && is_write_if (first_at after acquisition.object)) again
+          (first_at after acquisition.object)) free.1
           ∙ first)
       go MutexLock e free None t = absurd (has_lock MutexLock None t)
       go ReadLock e free None t = absurd (has_lock ReadLock None t)
@@ -231,9 +238,9 @@ module _ (h : History) (f : Follows h) (c : ℕ) (call : Asked) (had : IsGranted
           absurd (has_lock WriteLock (Some (kind_is.Barrier n)) t)
 
   -- the object touched is the lock
-  pub touches : touched after ≡ Some had.object
+  pub touches : service_object after ≡ Some acquisition.object
   touches =
-      ap (goal_of_operation h) had.asks ∙ ap (λ o. Some (unwrap_or o 0)) had.found
+      ap (goal_of_operation h) acquisition.has_request ∙ ap (λ o. Some (unwrap_or o 0)) acquisition.found
 
   -- so it must be granted
   pub serves : forced after ≡ Some (service after comes)
@@ -277,22 +284,22 @@ module _ (h : History) (f : Follows h) (c : ℕ) (call : Asked) (had : IsGranted
     pub queued : (v : QueuesView) → IsQueued h v → IsQueued granted v
     queued v k =
         record {
-          members = subst (λ ws. Members (at_object granted) (waiter granted) ws v.queue)
+          members = subst (λ ws. Members (wait_object granted) (waiter granted) ws v.queue)
               (sym same_open) k.members;
           admits = k.admits;
           makes = k.makes;
         }
 
     -- and so are the deadlines that are set
-    pub timed : (p : ℕ) → set_at granted p ≡ set_at h p
+    pub timed : (p : ℕ) → timer_at granted p ≡ timer_at h p
     timed p =
         set-grant after (place h) x follows p
         ∙ (ap (cond (place h == p) None)
         (set-left h f c call s p
         ∙ ap (λ d. cond (place h == p) (option_map (λ t. (clock_of call, deadline_nanos t)) d)
-        (set_at h p)) had.untimed)
-        ∙ (twice (place h == p) ∙ unset (set_at h) (place h) (set-new h f) p))
+        (timer_at h p)) acquisition.untimed)
+        ∙ (twice (place h == p) ∙ unset (timer_at h) (place h) (set-new h f) p))
       where
-        twice : (b : Bool) → cond b None (cond b None (set_at h p)) ≡ cond b None (set_at h p)
+        twice : (b : Bool) → cond b None (cond b None (timer_at h p)) ≡ cond b None (timer_at h p)
         twice true = refl
         twice false = refl

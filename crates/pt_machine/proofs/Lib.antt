@@ -17,14 +17,14 @@ pub mod ServiceLemmas
 pub mod LockClasses
 -- GrantsAtOnce: a call for a free lock, ahead of those that wait for it, is granted as it comes
 pub mod GrantsAtOnce
--- GrantedAtRest: nothing must follow the Grant of a call that is granted as it comes
-pub mod GrantedAtRest
--- ArrivalsAtRest: what must follow an arrival is the Trip of its barrier, or nothing
-pub mod ArrivalsAtRest
+-- SettledGrants: nothing must follow the Grant of a call that is granted as it comes
+pub mod SettledGrants
+-- SettledArrivals: what must follow an arrival is the Trip of its barrier, or nothing
+pub mod SettledArrivals
 -- CalmCalls: nothing must follow a call that gives nothing back and leaves no call waiting
 pub mod CalmCalls
--- CallsAtRest: nothing must follow a call that gives nothing back, or one for a lock that is held
-pub mod CallsAtRest
+-- SettledCallLemmas: nothing must follow a call that gives nothing back, or one for a lock that is held
+pub mod SettledCallLemmas
 -- AnswersAdded: the answers of the entries that were added to a stored history
 pub mod AnswersAdded
 -- GrantedStates: the tables after a call that is granted as it comes, and after its Grant
@@ -66,8 +66,8 @@ pub mod QueuedAnswers
 pub mod QueuedCalls
 -- QueuedObjects: pushes that make or end an object: the queues before and after them
 pub mod QueuedObjects
--- QueuedLeft: a call that is left waiting takes its place in a queue
-pub mod QueuedLeft
+-- QueuedWaits: a call that is left waiting takes its place in a queue
+pub mod QueuedWaits
 -- QueuedMoves: one wait is moved: it leaves its condition's queue, and takes its place in its
 -- mutex's
 pub mod QueuedMoves
@@ -108,11 +108,11 @@ pub mod TimerDrops
 -- Seals:
 -- SealedQueues: the queues and the deadlines are also those of the seal, if nothing must follow
 pub mod SealedQueues
--- SealedBodies: the object touched and the entries reserved after a seal, if nothing must follow
-pub mod SealedBodies
--- UnsealedBodies: queues, deadlines and reserved entries that are right for the seal of a history
+-- SealedMachines: the object touched and the entries reserved after a seal, if nothing must follow
+pub mod SealedMachines
+-- UnsealedMachines: queues, deadlines and reserved entries that are right for the seal of a history
 -- are right for the history
-pub mod UnsealedBodies
+pub mod UnsealedMachines
 -- Room:
 -- ForcedNeeds: the exact need after a forced entry
 pub mod ForcedNeeds

@@ -4,12 +4,12 @@ use Rattle.std.proofs.Common.{nat_le, ◌%◌, ◌≡◌, ℕ, ◌<◌, ◌⊎�
 use Rattle.std.proofs.Common.{List, Option, Some, None, refl, sym, ap, ◌∙◌, subst, arith}
 use Rattle.std.proofs.lemmas.Bool.Decides.{nat_tests}
 use Rattle.std.specs.Prelude.{option_map}
-use Rattle.pt_types.specs.declared.call.Call.{Call as Asked}
+use Rattle.pt_types.specs.declared.call.Call.{Call as FunctionCall}
 use Rattle.pt_types.specs.declared.outcome.Outcome.{Outcome}
-use Rattle.pt_types.specs.Times.{deadline_nanos, has_bad_deadline}
+use Rattle.pt_types.specs.Times.{deadline_nanos, has_invalid_deadline}
 use Rattle.pt_types.specs.declared.time.Clock.{Clock}
-use Rattle.pt_types.specs.Operations.{Operation, Makes, Ends, Acquires, Unlocks, Restores}
-use Rattle.pt_types.specs.Operations.{Rwunlocks, Awaits, Signals, Broadcasts, Arrives, operation}
+use Rattle.pt_types.specs.Operations.{Operation, Inits, Ends, Acquires, Unlocks, Restores}
+use Rattle.pt_types.specs.Operations.{Rwunlocks, CondWaits, Signals, Broadcasts, BarrierWaits, operation}
 use Rattle.pt_types.specs.Operations.{clock_of}
 use Rattle.pt_types.specs.Tables.{reply}
 use Rattle.pt_model.specs.Queries.{deadline_if}
@@ -21,7 +21,8 @@ use Rattle.pt_model.specs.declared.entry.Entry.TheVariants.{Yield, Expire}
 use Rattle.pt_model.specs.Searches.{In}
 use Rattle.pt_model.specs.Histories.{History, Begin, ◌▷◌, place}
 use Rattle.pt_model.specs.declared.waiting_call.WaitingCall.{WaitingCall}
-use Rattle.pt_model.specs.WaitingCall.{at_place, stood, stood_by_operation, stood_by}
+use Rattle.pt_model.specs.WaitingCall.{call_at_place, waiting_calls, waiting_calls_by_operation}
+use Rattle.pt_model.specs.WaitingCall.{waiting_calls_by}
 use Rattle.pt_model.specs.Answers.{open_calls}
 use Rattle.pt_model.specs.Grants.{grant_outcome}
 use Rattle.pt_model.specs.Forced.{forced}
@@ -34,12 +35,12 @@ use Rattle.pt_model.proofs.Changes.{left_by}
 use Rattle.pt_model.proofs.Readings.{stood-call}
 use Rattle.pt_model.proofs.Sound.{Fresh-follows, below_open}
 use Rattle.pt_model.proofs.Opens.{left, was_open, open-grant}
-use Rattle.pt_machine.specs.Timed.{written, asked, timed}
+use Rattle.pt_machine.specs.CallDeadlines.{timespec_of, operation_deadline, call_deadline}
 use Rattle.pt_machine.proofs.BadDeadlines.{bad-granted}
 
 -- an entry at another place does not change the deadline that was given at a place
-timed_still : (h : History) (e : Entry) (j : ℕ) → (place h == j) ≡ false → timed (h ▷ e) j
-    ≡ timed h j
+timed_still : (h : History) (e : Entry) (j : ℕ) → (place h == j) ≡ false → call_deadline (h ▷ e) j
+    ≡ call_deadline h j
 timed_still h (Call c call r) j ne = rw ne refl
 timed_still h (Join p k) j ne = refl
 timed_still h (Death c) j ne = refl
@@ -51,7 +52,7 @@ timed_still h (Expire k) j ne = refl
 
 -- an open call came before the new entry, which does not change the deadline that it gave
 pub timed_old : (h : History) (e : Entry) (w : WaitingCall) → Follows h → In w (open_calls h)
-    → timed (h ▷ e) w.place ≡ timed h w.place
+    → call_deadline (h ▷ e) w.place ≡ call_deadline h w.place
 timed_old h e w f i =
     let lt : w.place < place h = (below_open h w (Fresh-follows h f) i).0 in
     let ne : (place h == w.place) ≡ false = grind (arith, nat_tests) in
@@ -60,27 +61,28 @@ timed_old h e w f i =
 -- a call that an operation leaves waiting came at this place, and has the deadline that was given,
 -- by this clock
 operation_timed : (h : History) (c : ℕ) (z : Clock) (d : Operation) (w : WaitingCall)
-    → In w (stood_by_operation h c z d)
-    → (w.place ≡ place h) × (w.deadline ≡ option_map deadline_nanos (asked d)) × (w.clock ≡ z)
+    → In w (waiting_calls_by_operation h c z d)
+    → (w.place ≡ place h) × (w.deadline ≡ option_map deadline_nanos (operation_deadline d))
+    × (w.clock ≡ z)
 operation_timed h c z (Acquires n lock_kind how) w (inl i) = (
   ap (λ (u : WaitingCall). u.place) i,
   ap (λ (u : WaitingCall). u.deadline) i,
   ap (λ (u : WaitingCall). u.clock) i,
 )
 operation_timed h c z (Acquires n lock_kind how) w (inr i) = absurd i
-operation_timed h c z (Awaits n m d) w (inl i) = (
+operation_timed h c z (CondWaits n m d) w (inl i) = (
   ap (λ (u : WaitingCall). u.place) i,
   ap (λ (u : WaitingCall). u.deadline) i,
   ap (λ (u : WaitingCall). u.clock) i,
 )
-operation_timed h c z (Awaits n m d) w (inr i) = absurd i
-operation_timed h c z (Arrives n) w (inl i) = (
+operation_timed h c z (CondWaits n m d) w (inr i) = absurd i
+operation_timed h c z (BarrierWaits n) w (inl i) = (
   ap (λ (u : WaitingCall). u.place) i,
   ap (λ (u : WaitingCall). u.deadline) i,
   ap (λ (u : WaitingCall). u.clock) i,
 )
-operation_timed h c z (Arrives n) w (inr i) = absurd i
-operation_timed h c z (Makes n kind) w i = absurd i
+operation_timed h c z (BarrierWaits n) w (inr i) = absurd i
+operation_timed h c z (Inits n kind) w i = absurd i
 operation_timed h c z (Ends n class) w i = absurd i
 operation_timed h c z (Unlocks n) w i = absurd i
 operation_timed h c z (Restores n) w i = absurd i
@@ -89,27 +91,33 @@ operation_timed h c z (Signals n) w i = absurd i
 operation_timed h c z (Broadcasts n) w i = absurd i
 
 -- the same for a call
-pub stood_timed : (h : History) (c : ℕ) (call : Asked) (r : Option Outcome) (w : WaitingCall)
-    → In w (stood_by h (Call c call r))
-    → (w.place ≡ place h) × (w.deadline ≡ option_map deadline_nanos (asked (operation call)))
+pub stood_timed : (h : History) (c : ℕ) (call : FunctionCall) (r : Option Outcome) (w : WaitingCall)
+    → In w (waiting_calls_by h (Call c call r))
+    → (w.place ≡ place h) × (w.deadline
+    ≡ option_map deadline_nanos (operation_deadline (operation call)))
     × (w.clock ≡ clock_of call)
 stood_timed h c call None w i = operation_timed h c (clock_of call) (operation call) w i
 stood_timed h c call (Some x) w i = absurd i
 
 -- the call that an entry leaves waiting has the deadline that was given
-pub left_timed : (h : History) (c : ℕ) (call : Asked) (r : Option Outcome) (w : WaitingCall)
+pub left_timed : (h : History) (c : ℕ) (call : FunctionCall) (r : Option Outcome) (w : WaitingCall)
     → In w (left_by (effect h c call r))
-    → (timed (h ▷ Call c call r) w.place ≡ asked (operation call))
-    × (w.deadline ≡ option_map deadline_nanos (asked (operation call))) × (w.clock ≡ clock_of call)
+    → (call_deadline (h ▷ Call c call r) w.place ≡ operation_deadline (operation call))
+    × (w.deadline ≡ option_map deadline_nanos (operation_deadline (operation call))) × (w.clock
+    ≡ clock_of call)
 left_timed h c call r w i =
     let p =
     stood_timed h c call r w (subst (λ (us : List WaitingCall). In w us)
     (sym (stood-call h c call r)) i) in
     let at : w.place ≡ place h = p.0 in
-    let here : (place h == w.place) ≡ true = grind (arith, nat_tests) in
-    (ap (λ b. cond b (asked (operation call)) (timed h w.place)) here, p.1, p.2)
+    let here : (place h == w.place) ≡ true = grind (arith, nat_tests) in (
+      ap (λ b. cond b (operation_deadline (operation call))
+          (call_deadline h w.place)) here,
+      p.1,
+      p.2,
+    )
 
-pub written_good : (o : Option ℕ) → has_bad_deadline (option_map written o) ≡ true → ⊥
+pub written_good : (o : Option ℕ) → has_invalid_deadline (option_map timespec_of o) ≡ true → ⊥
 written_good None e = cc
 written_good (Some n) e =
     let lt : n % 1000000000 < 1000000000 = omega arith in
@@ -119,7 +127,7 @@ written_good (Some n) e =
 -- an open call whose deadline is not a time is granted by the next entry
 abbrev pub GrantsBad : History → Type 0
 GrantsBad h =
-    (w : WaitingCall) → In w (open_calls h) → has_bad_deadline (timed h w.place) ≡ true
+    (w : WaitingCall) → In w (open_calls h) → has_invalid_deadline (call_deadline h w.place) ≡ true
     → forced h ≡ Some (Grant w.place (grant_outcome h w))
 
 -- an option is not both none and an entry, nor two different entries
@@ -167,14 +175,14 @@ no_other h _ (grants v s j g) w i t =
 
 -- so each entry preserves this
 bad_step : (h : History) (e : Entry) → Follows h → GrantsBad h → Step h e → (w : WaitingCall)
-    → In w (open_calls (h ▷ e)) → has_bad_deadline (timed (h ▷ e) w.place) ≡ true
+    → In w (open_calls (h ▷ e)) → has_invalid_deadline (call_deadline (h ▷ e) w.place) ≡ true
     → In w (open_calls h) ⊎ In w (left h e)
     → forced (h ▷ e) ≡ Some (Grant w.place (grant_outcome (h ▷ e) w))
 bad_step h e f b s w i bad (inl k) =
-    absurd (no_other h e s w i (b w k (ap has_bad_deadline (sym (timed_old h e w f k)) ∙ bad)))
+    absurd (no_other h e s w i (b w k (ap has_invalid_deadline (sym (timed_old h e w f k)) ∙ bad)))
 bad_step h _ f b (calls c call n a o) w i bad (inr k) =
     bad-granted h f c call n a o
-    (ap has_bad_deadline (sym (left_timed h c call (reply (verdict h c call)) w k).0) ∙ bad) w k
+    (ap has_invalid_deadline (sym (left_timed h c call (reply (verdict h c call)) w k).0) ∙ bad) w k
 bad_step h _ f b (joins p n lt) w i bad (inr k) = absurd k
 bad_step h _ f b (dies c n a) w i bad (inr k) = absurd k
 bad_step h _ f b (ticks z t n) w i bad (inr k) = absurd k
@@ -189,11 +197,11 @@ grants-bad h f =
     by_steps GrantsBad (λ w i bad. absurd i)
     (λ h e f b s w i bad. bad_step h e f b s w i bad (was_open h e f s w i))
     (λ h f b w i bad. absurd (written_good
-    (deadline_if (at_place w.place (stood (Begin (seal h))))) bad)) h f
+    (deadline_if (call_at_place w.place (waiting_calls (Begin (seal h))))) bad)) h f
 
 -- so there is no such call if nothing is forced
 pub none-bad : (h : History) → Follows h → forced h ≡ None → (w : WaitingCall) → In w (open_calls h)
-    → has_bad_deadline (timed h w.place) ≡ false
+    → has_invalid_deadline (call_deadline h w.place) ≡ false
 none-bad h f n w i =
-    false_by (has_bad_deadline (timed h w.place)) (λ bad. not_forced (forced h)
+    false_by (has_invalid_deadline (call_deadline h w.place)) (λ bad. not_forced (forced h)
     (Grant w.place (grant_outcome h w)) n (grants-bad h f w i bad))

@@ -5,18 +5,18 @@ use Rattle.pt_table.specs.ClientRows.{client_value}
 use Rattle.pt_model.specs.Searches.{In}
 use Rattle.pt_model.specs.Histories.{History}
 use Rattle.pt_model.specs.declared.waiting_call.WaitingCall.{WaitingCall}
-use Rattle.pt_model.specs.WaitingCall.{at_place, stood}
+use Rattle.pt_model.specs.WaitingCall.{call_at_place, waiting_calls}
 use Rattle.pt_model.specs.Answers.{open_calls}
-use Rattle.pt_model.specs.Moves.{at_object}
+use Rattle.pt_model.specs.Moves.{wait_object}
 use Rattle.pt_model.specs.Steps.{Follows}
 use Rattle.pt_model.proofs.Found.{found_open}
-use Rattle.pt_touched.specs.Touched.{goal, goal_if, object_if, open_call_of}
-use Rattle.pt_touched.proofs.ClientCalls.{open_call-found, open_call-is}
+use Rattle.pt_next_grant.specs.Touched.{goal, goal_if, object_if, open_call_of}
+use Rattle.pt_next_grant.proofs.ClientCalls.{open_call-found, open_call-is}
 use Rattle.pt_records.specs.declared.clients.Caller.{Caller}
 use Rattle.pt_records.specs.declared.clients.Open.{Open}
 use Rattle.pt_records.specs.Callers.{AreCallers, call_of, open_in, opens_of}
 use Rattle.pt_records.specs.OpenRows.{object_of}
-use Rattle.pt_state.specs.Serving.{called}
+use Rattle.pt_state.specs.Serving.{call_of_open}
 use Rattle.pt_state.proofs.CallerFinds.{call_of-in, call_of-none}
 use Rattle.pt_state.proofs.ServingFinds.{are-open}
 use Rattle.pt_state.proofs.ServingOrders.{object-same}
@@ -41,12 +41,13 @@ module _ (h : History) (rows : List (ClientRow Caller)) (f : Follows h) (a : Are
 
     -- the call in a client's row is its open call
     pub row-call : (c : ℕ) (found : Option Open) → found ≡ open_in (client_value rows c)
-        → option_map called found ≡ open_call_of h c
-    row-call c found e = ap (option_map called) e ∙ (a.look.calls c ∙ call-same c)
+        → option_map call_of_open found ≡ open_call_of h c
+    row-call c found e = ap (option_map call_of_open) e ∙ (a.look.calls c ∙ call-same c)
 
     -- an open call waits at the object that its row gives
-    pub row-object : (o : Open) → In o (opens_of rows) → object_of o ≡ at_object h (called o)
-    row-object o i = object-same h o ((are-open h rows f a).known o i).1
+    pub row-object : (o : Open) → In o (opens_of rows) → object_of o
+        ≡ wait_object h (call_of_open o)
+    row-object o i = object-same h o ((are-open h rows f a).has_call o i).1
 
     -- the object at which the call in a client's row waits
     pub row-waits : (c : ℕ) (found : Option Open) → found ≡ open_in (client_value rows c)
@@ -58,5 +59,7 @@ module _ (h : History) (rows : List (ClientRow Caller)) (f : Follows h) (a : Are
 
     -- the object that a call in the rows is for in the end
     pub row-goal : (o : Open) → In o (opens_of rows)
-        → Some (goal (called o).role o.call.object) ≡ goal_if (at_place o.call.place (stood h))
-    row-goal o i = sym (ap goal_if (found_open h f (called o) ((are-open h rows f a).known o i).0))
+        → Some (goal (call_of_open o).role o.call.object)
+        ≡ goal_if (call_at_place o.call.place (waiting_calls h))
+    row-goal o i = sym (ap goal_if (found_open h f (call_of_open o)
+        ((are-open h rows f a).has_call o i).0))

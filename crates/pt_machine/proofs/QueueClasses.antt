@@ -19,12 +19,12 @@ use Rattle.pt_model.specs.declared.waiting_call.Move.{Move}
 use Rattle.pt_model.specs.declared.waiting_call.Role.{Role}
 use Rattle.pt_model.specs.declared.waiting_call.Role.TheVariants.{ForMutex, ForRead, ForWrite}
 use Rattle.pt_model.specs.declared.waiting_call.Role.TheVariants.{ForBarrier, ForCond}
-use Rattle.pt_model.specs.WaitingCall.{is_arrival, is_wait}
+use Rattle.pt_model.specs.WaitingCall.{is_barrier_wait, is_cond_wait}
 use Rattle.pt_model.specs.Answers.{open_calls}
-use Rattle.pt_model.specs.Moves.{moved, object_by, at_object}
+use Rattle.pt_model.specs.Moves.{wait_move, wait_object_by, wait_object}
 use Rattle.pt_model.specs.Steps.{Follows}
 use Rattle.pt_model.proofs.Seats.{exists_as, HousedBy, housed}
-use Rattle.pt_state.specs.Serving.{waits_in}
+use Rattle.pt_state.specs.Serving.{waits_at_cond}
 
 -- an object of one class is not one of another
 other-object : (h : History) (q o : ℕ) (z s : ObjectClass)
@@ -47,7 +47,7 @@ other-object h q o z s e n t = go (o == q) refl
 module _ (h : History) (q : ℕ) where
   at-cond-by : option_map class_of (kind_of h q) ≡ Some CondClass
       → (role : Role) (move : Option Move) (o : ℕ) → HousedBy h role move o
-      → (object_by role move o == q) ≡ (is_wait role && (is_none move && (o == q)))
+      → (wait_object_by role move o == q) ≡ (is_cond_wait role && (is_none move && (o == q)))
   at-cond-by e (ForCond m) None o a = refl
   at-cond-by e (ForCond m) (Some v) o a = other-object h q m CondClass MutexClass e refl a.0
   at-cond-by e ForMutex move o a = other-object h q o CondClass MutexClass e refl a.0
@@ -57,7 +57,7 @@ module _ (h : History) (q : ℕ) where
 
   at-barrier-by : option_map class_of (kind_of h q) ≡ Some BarrierClass
       → (role : Role) (move : Option Move) (o : ℕ) → HousedBy h role move o
-      → (object_by role move o == q) ≡ (is_arrival role && (o == q))
+      → (wait_object_by role move o == q) ≡ (is_barrier_wait role && (o == q))
   at-barrier-by e (ForCond m) None o a = other-object h q o BarrierClass CondClass e refl a.0
   at-barrier-by e (ForCond m) (Some v) o a = other-object h q m BarrierClass MutexClass e refl a.0
   at-barrier-by e ForMutex move o a = other-object h q o BarrierClass MutexClass e refl a.0
@@ -67,26 +67,27 @@ module _ (h : History) (q : ℕ) where
 
 -- the calls that wait at a condition are the waits there that were not moved
 pub at-cond : (h : History) → Follows h → (q : ℕ) → kind_of h q ≡ Some kind.Cond
-    → (w : WaitingCall) → In w (open_calls h) → (at_object h w == q) ≡ waits_in h q w
+    → (w : WaitingCall) → In w (open_calls h) → (wait_object h w == q) ≡ waits_at_cond h q w
 at-cond h f q e w i =
-    at-cond-by h q (ap (option_map class_of) e) w.role (moved h w.place) w.object (housed h f w i)
+    at-cond-by h q (ap (option_map class_of) e) w.role (wait_move h w.place) w.object
+    (housed h f w i)
 
 -- the calls that wait at a barrier are the arrivals there
 pub at-barrier : (h : History) → Follows h → (b : ℕ)
     → option_map class_of (kind_of h b) ≡ Some BarrierClass
     → (w : WaitingCall) → In w (open_calls h)
-    → (at_object h w == b) ≡ (is_arrival w.role && (w.object == b))
+    → (wait_object h w == b) ≡ (is_barrier_wait w.role && (w.object == b))
 at-barrier h f b e w i =
-    at-barrier-by h b e w.role (moved h w.place) w.object (housed h f w i)
+    at-barrier-by h b e w.role (wait_move h w.place) w.object (housed h f w i)
 
 -- no arrival waits at an object that is not a barrier
 pub no-arrival : (h : History) → Follows h → (q : ℕ) → exists_as h BarrierClass q ≡ false
-    → (w : WaitingCall) → In w (open_calls h) → (at_object h w == q) ≡ true
-    → is_arrival w.role ≡ false
-no-arrival h f q other w i = go w.role (moved h w.place) w.object (housed h f w i)
+    → (w : WaitingCall) → In w (open_calls h) → (wait_object h w == q) ≡ true
+    → is_barrier_wait w.role ≡ false
+no-arrival h f q other w i = go w.role (wait_move h w.place) w.object (housed h f w i)
   where
     go : (role : Role) (move : Option Move) (o : ℕ) → HousedBy h role move o
-        → (object_by role move o == q) ≡ true → is_arrival role ≡ false
+        → (wait_object_by role move o == q) ≡ true → is_barrier_wait role ≡ false
     go ForBarrier move o a t =
         let same : o ≡ q = grind (arith, nat_tests) in
         absurd (false≢true (sym other ∙ (ap (exists_as h BarrierClass) (sym same) ∙ a.0)))
@@ -96,11 +97,11 @@ no-arrival h f q other w i = go w.role (moved h w.place) w.object (housed h f w 
     go (ForCond m) move o a t = refl
 
 -- a wait at a condition is not an arrival
-pub wait-plain : (h : History) (q : ℕ) (w : WaitingCall) → waits_in h q w ≡ true
-    → is_arrival w.role ≡ false
-wait-plain h q w t = go w.role (is_none (moved h w.place) && (w.object == q)) t
+pub wait-plain : (h : History) (q : ℕ) (w : WaitingCall) → waits_at_cond h q w ≡ true
+    → is_barrier_wait w.role ≡ false
+wait-plain h q w t = go w.role (is_none (wait_move h w.place) && (w.object == q)) t
   where
-    go : (role : Role) (b : Bool) → (is_wait role && b) ≡ true → is_arrival role ≡ false
+    go : (role : Role) (b : Bool) → (is_cond_wait role && b) ≡ true → is_barrier_wait role ≡ false
     go ForBarrier b e = absurd cc
     go ForMutex b e = refl
     go ForRead b e = refl

@@ -7,7 +7,7 @@ use Rattle.std.specs.List.{list_any, cons_option}
 use Rattle.pt_types.specs.declared.call.ObjectKind.TheVariants as kind
 use Rattle.pt_types.specs.Operations.{class_of}
 use Rattle.pt_types.specs.declared.operations.ObjectClass.TheVariants.{Barrier as BarrierClass}
-use Rattle.pt_types.specs.Limits.{most_clients}
+use Rattle.pt_types.specs.Limits.{max_clients}
 use Rattle.pt_table.specs.declared.clients.ClientRow.{ClientRow}
 use Rattle.pt_waitq.specs.declared.waiter.Waiter.{Waiter}
 use Rattle.pt_waitq.specs.Members.{Members}
@@ -18,12 +18,12 @@ use Rattle.pt_model.proofs.Induction.{by_steps}
 use Rattle.pt_model.specs.declared.entry.Entry.{Entry}
 use Rattle.pt_model.specs.Searches.{Each}
 use Rattle.pt_model.specs.Histories.{History, ◌▷◌, place}
-use Rattle.pt_model.specs.Clients.{living}
+use Rattle.pt_model.specs.Clients.{living_count}
 use Rattle.pt_model.specs.Objects.{kind_of}
 use Rattle.pt_model.specs.declared.waiting_call.WaitingCall.{WaitingCall}
-use Rattle.pt_model.specs.WaitingCall.{is_arrival}
+use Rattle.pt_model.specs.WaitingCall.{is_barrier_wait}
 use Rattle.pt_model.specs.Answers.{open_calls, at_barrier}
-use Rattle.pt_model.specs.Moves.{at_object}
+use Rattle.pt_model.specs.Moves.{wait_object}
 use Rattle.pt_model.specs.Steps.{Step, joins, calls, dies, ticks, grants, trips, yields, expires}
 use Rattle.pt_model.specs.Steps.{Follows}
 use Rattle.pt_model.proofs.Lists.{Each-from_in, Each-filter, filter-agree_on, false_by}
@@ -34,10 +34,10 @@ use Rattle.pt_model.proofs.Ascending.{any-filter}
 use Rattle.pt_records.specs.declared.clients.Caller.{Caller}
 use Rattle.pt_records.specs.declared.clients.Open.{Open}
 use Rattle.pt_records.specs.Callers.{AreCallers, opens_of}
-use Rattle.pt_state.specs.Serving.{waits_in}
+use Rattle.pt_state.specs.Serving.{waits_at_cond}
 use Rattle.pt_state.proofs.Totals.{sum_below-same, worth, Lone, total-worth}
 use Rattle.pt_state.proofs.TotalLemmas.{lone-calls, total-calls}
-use Rattle.pt_machine.specs.Queued.{waiter}
+use Rattle.pt_machine.specs.CallQueues.{waiter}
 use Rattle.pt_machine.proofs.Membership.{in-list, in-queue}
 use Rattle.pt_machine.proofs.QueueClasses.{at-cond, at-barrier}
 
@@ -137,7 +137,7 @@ lone-once (v ∷ vs) f =
         absurd (omega (arith, none, any-length own vs t))
 
 module _ (h : History) (queue : ℕ → List Waiter)
-    (m : Members (at_object h) (waiter h) (open_calls h) queue) (follows : Follows h)
+    (m : Members (wait_object h) (waiter h) (open_calls h) queue) (follows : Follows h)
     (once : (c q : ℕ) → length (of_client c (queue q)) ≤ 1) where
   -- the clients of the calls at an object, and of the waiters in its queue, joined before
   calls-below : (p : WaitingCall → Bool) → Each (λ w. w.client < place h) (filter p (open_calls h))
@@ -149,57 +149,58 @@ module _ (h : History) (queue : ℕ → List Waiter)
   queue-below : (q : ℕ) → Each (λ v. v.client < place h) (queue q)
   queue-below q =
       Each-from_in (λ v. v.client < place h) (queue q) (λ v i.
-      let r = m.known q v (in-queue v (queue q) i) in
+      let r = m.has_call q v (in-queue v (queue q) i) in
       let there = open_alive h r.0 (in-list r.0 (open_calls h) r.1) in
       let lt = alive_below h r.0.client (Fresh-follows h follows) there in
       let same : v.client ≡ r.0.client = ap (λ (x : Waiter). x.client) r.3 in
       omega (arith, lt, same))
 
   -- a queue has as many waiters as calls wait at its object
-  counts : (q : ℕ) → length (queue q) ≡ length (filter (λ w. at_object h w == q) (open_calls h))
+  counts : (q : ℕ) → length (queue q) ≡ length (filter (λ w. wait_object h w == q) (open_calls h))
   counts q =
       same-length (λ (v : Waiter). v.client) (λ (w : WaitingCall). w.client) (place h) (queue q)
-      (filter (λ w. at_object h w == q) (open_calls h)) (lone-once (queue q) (λ c. once c q))
-      (lone-filter (λ (w : WaitingCall). w.client) (λ w. at_object h w == q) (open_calls h)
-      (lone-calls h follows)) (queue-below q) (calls-below (λ w. at_object h w == q))
-      (λ c. members-any (at_object h) (waiter h) (open_calls h) queue m (λ v. v.client == c) q
-      ∙ sym (any-filter (λ w. w.client == c) (λ w. at_object h w == q) (open_calls h)))
+      (filter (λ w. wait_object h w == q) (open_calls h)) (lone-once (queue q) (λ c. once c q))
+      (lone-filter (λ (w : WaitingCall). w.client) (λ w. wait_object h w == q) (open_calls h)
+      (lone-calls h follows)) (queue-below q) (calls-below (λ w. wait_object h w == q))
+      (λ c. members-any (wait_object h) (waiter h) (open_calls h) queue m (λ v. v.client == c) q
+      ∙ sym (any-filter (λ w. w.client == c) (λ w. wait_object h w == q) (open_calls h)))
 
   -- a barrier's queue has as many waiters as there are arrivals at the barrier
   pub counts-barrier : (b n : ℕ) → option_map class_of (kind_of h b) ≡ Some BarrierClass
       → n ≡ length (queue b) → n ≡ length (at_barrier b (open_calls h))
   counts-barrier b n e t =
       t ∙ (counts b ∙ ap length (
-      filter-agree_on (λ w. at_object h w == b) (λ w. is_arrival w.role && (w.object == b))
+      filter-agree_on (λ w. wait_object h w == b) (λ w. is_barrier_wait w.role && (w.object == b))
       (open_calls h) (
       Each-from_in
-      (λ w. (at_object h w == b) ≡ (is_arrival w.role && (w.object == b))) (open_calls h)
+      (λ w. (wait_object h w == b) ≡ (is_barrier_wait w.role && (w.object == b))) (open_calls h)
       (at-barrier h follows b e))))
 
   -- a condition's queue has as many waiters as there are waits there that were not moved
   pub counts-cond : (q n : ℕ) → kind_of h q ≡ Some kind.Cond → n ≡ length (queue q)
-      → n ≡ length (filter (waits_in h q) (open_calls h))
+      → n ≡ length (filter (waits_at_cond h q) (open_calls h))
   counts-cond q n e t =
       t ∙ (counts q ∙ ap length (
-      filter-agree_on (λ w. at_object h w == q) (waits_in h q) (open_calls h) (
-      Each-from_in (λ w. (at_object h w == q) ≡ waits_in h q w) (open_calls h)
+      filter-agree_on (λ w. wait_object h w == q) (waits_at_cond h q) (open_calls h) (
+      Each-from_in (λ w. (wait_object h w == q) ≡ waits_at_cond h q w) (open_calls h)
       (at-cond h follows q e))))
 
-living-step : (h : History) (e : Entry) → living h ≤ most_clients → Step h e
-    → living (h ▷ e) ≤ most_clients
-living-step h _ le (joins p n lt) = omega (arith, lt)
-living-step h _ le (dies c n a) = omega (arith, le)
-living-step h _ le (calls c call n a o) = le
-living-step h _ le (ticks k t n) = le
-living-step h _ le (grants w s i g) = le
-living-step h _ le (trips w s i t) = le
-living-step h _ le (yields m s t) = le
-living-step h _ le (expires w s i t) = le
+living_count-step : (h : History) (e : Entry) → living_count h ≤ max_clients → Step h e
+    → living_count (h ▷ e) ≤ max_clients
+living_count-step h _ le (joins p n lt) = omega (arith, lt)
+living_count-step h _ le (dies c n a) = omega (arith, le)
+living_count-step h _ le (calls c call n a o) = le
+living_count-step h _ le (ticks k t n) = le
+living_count-step h _ le (grants w s i g) = le
+living_count-step h _ le (trips w s i t) = le
+living_count-step h _ le (yields m s t) = le
+living_count-step h _ le (expires w s i t) = le
 
 -- no more clients live than the limit
-pub living-most : (h : History) → Follows h → living h ≤ most_clients
-living-most h f =
-    by_steps (λ h. living h ≤ most_clients) (omega arith) (λ h e f le s. living-step h e le s)
+pub living_count-most : (h : History) → Follows h → living_count h ≤ max_clients
+living_count-most h f =
+    by_steps (λ h. living_count h ≤ max_clients) (omega arith)
+    (λ h e f le s. living_count-step h e le s)
     (λ h f le. le) h f
 
 -- each row has one open call at most
@@ -214,7 +215,7 @@ opens-rows (row ∷ rows) = go row.value.open (opens-rows rows)
 
 -- no more calls are open than clients may live
 pub open-most : (h : History) (rows : List (ClientRow Caller)) → Follows h → AreCallers h rows
-    → (p : WaitingCall → Bool) (n : ℕ) → n ≡ length (filter p (open_calls h)) → n ≤ most_clients
+    → (p : WaitingCall → Bool) (n : ℕ) → n ≡ length (filter p (open_calls h)) → n ≤ max_clients
 open-most h rows f a p n e =
     omega (
       arith,
@@ -225,5 +226,5 @@ open-most h rows f a p n e =
       total-ones (opens_of rows),
       opens-rows rows,
       a.many,
-      living-most h f,
+      living_count-most h f,
     )

@@ -3,20 +3,20 @@ use Rattle.std.proofs.Common.{◌≡◌, ℕ, ◌==◌, Bool, true, false, List,
 use Rattle.std.proofs.Common.{IfSome, cond, filter, refl, sym, ap, ◌∙◌, subst, arith, eq-eqb}
 use Rattle.std.proofs.lemmas.Bool.Decides.{nat_tests}
 use Rattle.pt_types.specs.KeyOrder.{goes_before}
-use Rattle.pt_types.specs.Limits.{most_priority}
+use Rattle.pt_types.specs.Limits.{max_priority}
 use Rattle.pt_table.specs.declared.clients.ClientRow.{ClientRow}
 use Rattle.pt_table.specs.ClientRows.{client_value}
 use Rattle.pt_waitq.specs.declared.waiter.Waiter.{Waiter}
 use Rattle.pt_waitq.specs.Members.{Members}
-use Rattle.pt_waitq.specs.Queues.{In as InQueue, key_of, comes_before, head_of}
+use Rattle.pt_waitq.specs.Queues.{In as InQueue, waiter_key, comes_before, head_of}
 use Rattle.pt_waitq.proofs.MemberLemmas.{head-in, head-first, head-none}
 use Rattle.pt_model.specs.Searches.{In, least}
 use Rattle.pt_model.specs.Histories.{History}
 use Rattle.pt_model.specs.declared.waiting_call.WaitingCall.{WaitingCall}
 use Rattle.pt_model.specs.declared.waiting_call.Move.{Move}
-use Rattle.pt_model.specs.WaitingCall.{is_arrival}
+use Rattle.pt_model.specs.WaitingCall.{is_barrier_wait}
 use Rattle.pt_model.specs.Answers.{open_calls}
-use Rattle.pt_model.specs.Moves.{arrival_by, moved, key, precedes, at_object}
+use Rattle.pt_model.specs.Moves.{arrival_by, wait_move, call_key, precedes, wait_object}
 use Rattle.pt_model.specs.Steps.{Follows}
 use Rattle.pt_model.proofs.Lists.{In-filter, filter-in}
 use Rattle.pt_model.proofs.Leasts.{least-in, least-none, none-least}
@@ -24,30 +24,30 @@ use Rattle.pt_model.proofs.Orders.{precedes-order, least-first}
 use Rattle.pt_records.specs.declared.clients.Caller.{Caller}
 use Rattle.pt_records.specs.declared.clients.Open.{Open}
 use Rattle.pt_records.specs.Callers.{AreCallers, call_of, open_in, opens_of}
-use Rattle.pt_state.specs.Serving.{called}
+use Rattle.pt_state.specs.Serving.{call_of_open}
 use Rattle.pt_records.proofs.OpenRows.{look-row, row-open}
 use Rattle.pt_state.proofs.CallerFinds.{call_of-open}
 use Rattle.pt_state.proofs.ServingOrders.{precedes-one}
-use Rattle.pt_machine.specs.Queued.{waiter}
+use Rattle.pt_machine.specs.CallQueues.{waiter}
 use Rattle.pt_machine.proofs.Membership.{in-list, in-queue}
 
 -- the key of a call is that of its waiter, except at a barrier
-key-waiter : (h : History) (w : WaitingCall) → is_arrival w.role ≡ false
-    → key_of (waiter h w) ≡ key h w
-key-waiter h w other =
-    ap (λ b. record (key_of (waiter h w)) { priority = cond b most_priority w.priority }) other
-    ∙ ap (λ a. record (key h w) { arrival = a }) (arrives (moved h w.place) w.place)
+call_key-waiter : (h : History) (w : WaitingCall) → is_barrier_wait w.role ≡ false
+    → waiter_key (waiter h w) ≡ call_key h w
+call_key-waiter h w other =
+    ap (λ b. record (waiter_key (waiter h w)) { priority = cond b max_priority w.priority }) other
+    ∙ ap (λ a. record (call_key h w) { arrival = a }) (arrives (wait_move h w.place) w.place)
   where
     arrives : (move : Option Move) (j : ℕ) → ((arrival_by move j).0, j) ≡ arrival_by move j
     arrives None j = refl
     arrives (Some v) j = refl
 
 -- a waiter comes before another exactly if its call precedes the other's
-pub before-waiter : (h : History) (v w : WaitingCall) → is_arrival v.role ≡ false
-    → is_arrival w.role ≡ false → comes_before (waiter h v) (waiter h w) ≡ precedes h v w
+pub before-waiter : (h : History) (v w : WaitingCall) → is_barrier_wait v.role ≡ false
+    → is_barrier_wait w.role ≡ false → comes_before (waiter h v) (waiter h w) ≡ precedes h v w
 before-waiter h v w one other =
-    ap (λ k. goes_before k (key_of (waiter h w))) (key-waiter h v one)
-    ∙ ap (goes_before (key h v)) (key-waiter h w other)
+    ap (λ k. goes_before k (waiter_key (waiter h w))) (call_key-waiter h v one)
+    ∙ ap (goes_before (call_key h v)) (call_key-waiter h w other)
 
 -- an open call that none of these precedes is the least of them
 pub least-open : (h : History) → Follows h → (p : WaitingCall → Bool) (w : WaitingCall)
@@ -71,58 +71,59 @@ least-open h f p w i t first = go (least (precedes h) those) refl
         (least-first (precedes h) (precedes-order h) those u e w here))
 
 module _ (h : History) (queue : ℕ → List Waiter)
-    (m : Members (at_object h) (waiter h) (open_calls h) queue) (follows : Follows h) (q : ℕ)
+    (m : Members (wait_object h) (waiter h) (open_calls h) queue) (follows : Follows h) (q : ℕ)
     (here : WaitingCall → Bool)
-    (agrees : (w : WaitingCall) → In w (open_calls h) → (at_object h w == q) ≡ here w) where
+    (agrees : (w : WaitingCall) → In w (open_calls h) → (wait_object h w == q) ≡ here w) where
   -- the waiter of a call that waits there is in the queue
-  pub stands : (w : WaitingCall) → In w (open_calls h) → here w ≡ true
+  pub is_waiting : (w : WaitingCall) → In w (open_calls h) → here w ≡ true
       → InQueue (waiter h w) (queue q)
-  stands w i t =
-      let test : (at_object h w == q) ≡ true = agrees w i ∙ t in
-      let at : at_object h w ≡ q = grind (arith, nat_tests) in
-      subst (λ o. InQueue (waiter h w) (queue o)) at (m.held w (in-queue w (open_calls h) i))
+  is_waiting w i t =
+      let test : (wait_object h w == q) ≡ true = agrees w i ∙ t in
+      let at : wait_object h w ≡ q = grind (arith, nat_tests) in
+      subst (λ o. InQueue (waiter h w) (queue o)) at (m.in_queue w (in-queue w (open_calls h) i))
 
   -- none of the calls there is an arrival
   abbrev ArePlain : Type 0
-  ArePlain = (w : WaitingCall) → In w (open_calls h) → here w ≡ true → is_arrival w.role ≡ false
+  ArePlain = (w : WaitingCall) → In w (open_calls h) → here w ≡ true → is_barrier_wait w.role
+      ≡ false
 
   -- the first of the queue is the least of the calls there
   pub first-least : ArePlain → (v : Waiter) → head_of (queue q) ≡ Some v
       → (w : WaitingCall) × (In w (open_calls h) × (v ≡ waiter h w)
       × (least (precedes h) (filter here (open_calls h)) ≡ Some w))
   first-least plain v e =
-      let r = m.known q v (head-in (queue q) v e) in
+      let r = m.has_call q v (head-in (queue q) v e) in
       let w = r.0 in
       let i = in-list w (open_calls h) r.1 in
-      let waits = sym (agrees w i) ∙ eq-eqb (at_object h w) q r.2 in
+      let waits = sym (agrees w i) ∙ eq-eqb (wait_object h w) q r.2 in
       let first : (u : WaitingCall) → In u (open_calls h) → here u ≡ true
       → precedes h u w ≡ false = λ u j t.
       sym (before-waiter h u w (plain u j t) (plain w i waits))
       ∙ (ap (comes_before (waiter h u)) (sym r.3)
-      ∙ head-first (queue q) v (m.in_order q) e (waiter h u) (stands u j t)) in
+      ∙ head-first (queue q) v (m.in_order q) e (waiter h u) (is_waiting u j t)) in
       (w, (i, r.3, least-open h follows here w i waits first))
 
   -- the open call of the first waiter's client is the first call there
-  pub first-called : ArePlain → (rows : List (ClientRow Caller)) → AreCallers h rows
+  pub first-call_of_open : ArePlain → (rows : List (ClientRow Caller)) → AreCallers h rows
       → (first : Option Waiter) (v : Waiter) (found : Option Open)
       → first ≡ head_of (queue q) → first ≡ Some v
       → found ≡ open_in (client_value rows v.client)
-      → option_map called found
+      → option_map call_of_open found
       ≡ least (precedes h) (filter here (open_calls h))
-  first-called plain rows a first v found e s t =
+  first-call_of_open plain rows a first v found e s t =
       let r = first-least plain v (sym e ∙ s) in
       let own : call_of (open_calls h) v.client ≡ Some r.0 =
       ap (λ (x : Waiter). call_of (open_calls h) x.client) r.1.1
       ∙ call_of-open h follows r.0 r.1.0 in
-      ap (option_map called) t ∙ (a.look.calls v.client ∙ (own ∙ sym r.1.2))
+      ap (option_map call_of_open) t ∙ (a.look.calls v.client ∙ (own ∙ sym r.1.2))
 
   -- if the queue is empty, no call waits there
-  pub none-called : (first : Option Waiter) → first ≡ head_of (queue q) → first ≡ None
+  pub none-call_of_open : (first : Option Waiter) → first ≡ head_of (queue q) → first ≡ None
       → None ≡ least (precedes h) (filter here (open_calls h))
-  none-called first e s =
+  none-call_of_open first e s =
       sym (none-least (precedes h) (filter here (open_calls h)) (λ w i.
       let j = In-filter here (open_calls h) w i in
-      head-none (queue q) (sym e ∙ s) (waiter h w) (stands w j.0 j.1)))
+      head-none (queue q) (sym e ∙ s) (waiter h w) (is_waiting w j.0 j.1)))
 
 -- a client's open call is one of those in the rows
 pub found-known : (rows : List (ClientRow Caller)) (c : ℕ) (found : Option Open)

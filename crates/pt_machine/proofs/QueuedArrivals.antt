@@ -5,42 +5,42 @@ use Rattle.std.proofs.lemmas.Bool.{false≢true}
 use Rattle.std.proofs.lemmas.Bool.Decides.{nat_tests}
 use Rattle.pt_types.specs.declared.time.Clock.{Clock}
 use Rattle.pt_waitq.specs.declared.waiter.Waiter.{Waiter}
-use Rattle.pt_waitq.specs.Queues.{QueuesView, stands_in, without}
+use Rattle.pt_waitq.specs.Queues.{QueuesView, is_queued_in, other_waiters}
 use Rattle.pt_waitq.specs.Members.{Members}
-use Rattle.pt_waitq.specs.Waits.{no_waits, seen_in}
+use Rattle.pt_waitq.specs.Waits.{no_waits, queues_view}
 use Rattle.pt_waitq.proofs.MemberLemmas.{members-out}
-use Rattle.pt_model.specs.Starts.{nothing}
+use Rattle.pt_model.specs.Starts.{empty_start}
 use Rattle.pt_model.specs.declared.entry.Entry.TheVariants.{Join, Death, Moment, Yield}
 use Rattle.pt_model.specs.Histories.{History, Begin, ◌▷◌, place}
-use Rattle.pt_model.specs.Clients.{client}
+use Rattle.pt_model.specs.Clients.{client_priority}
 use Rattle.pt_model.specs.declared.waiting_call.WaitingCall.{WaitingCall}
 use Rattle.pt_model.specs.Answers.{open_calls}
-use Rattle.pt_model.specs.Moves.{at_object}
+use Rattle.pt_model.specs.Moves.{wait_object}
 use Rattle.pt_model.specs.Steps.{Follows}
 use Rattle.pt_model.proofs.Opens.{open-join, open-moment, open-yield, open-death}
 use Rattle.pt_model.proofs.Sound.{Fresh-follows}
-use Rattle.pt_machine.specs.Queued.{waiter, IsQueued}
+use Rattle.pt_machine.specs.CallQueues.{waiter, IsQueued}
 use Rattle.pt_machine.proofs.QueuedSame.{members-carry, queued-same}
 
-queued-none : IsQueued (Begin nothing) (seen_in no_waits)
+queued-none : IsQueued (Begin empty_start) (queues_view no_waits)
 queued-none =
     record {
       members = record {
         in_order = λ q. tt;
-        known = λ q v i. absurd i;
-        held = λ w i. absurd i;
+        has_call = λ q v i. absurd i;
+        in_queue = λ w i. absurd i;
       };
       admits = λ c. refl;
       makes = λ o. refl;
     }
 
 -- before the first entry there is no call, no room and no queue
-pub queued-begin : (h : History) (view : QueuesView) → h ≡ Begin nothing
-    → view ≡ seen_in no_waits → IsQueued h view
+pub queued-begin : (h : History) (view : QueuesView) → h ≡ Begin empty_start
+    → view ≡ queues_view no_waits → IsQueued h view
 queued-begin h view begins empty =
     subst (λ (g : History). IsQueued g view)
     (sym begins)
-    (subst (λ (v : QueuesView). IsQueued (Begin nothing) v) (sym empty) queued-none)
+    (subst (λ (v : QueuesView). IsQueued (Begin empty_start) v) (sym empty) queued-none)
 
 -- a reading of the clock changes no queue
 pub queued-moment : (h : History) (z : Clock) (t : ℕ) (view : QueuesView) → IsQueued h view
@@ -62,7 +62,7 @@ joined_lives false p o = refl
 pub queued-join : (h : History) (n p : ℕ) (view view' : QueuesView) → Follows h → n ≡ place h
     → ((q : ℕ) → view'.queue q ≡ view.queue q)
     → ((c : ℕ) → view'.admitted c ≡ ((n == c) || view.admitted c))
-    → ((o : ℕ) → view'.made o ≡ view.made o)
+    → ((o : ℕ) → view'.is_queue o ≡ view.is_queue o)
     → IsQueued h view → IsQueued (h ▷ Join (place h) p) view'
 queued-join h n p view view' f here queues rooms places k =
     record {
@@ -71,7 +71,7 @@ queued-join h n p view view' f here queues rooms places k =
       admits = λ c.
           rooms c ∙ ap (λ m. (m == c) || view.admitted c) here
           ∙ (ap (λ b. (place h == c) || b) (k.admits c)
-          ∙ joined_lives (place h == c) p (client h c));
+          ∙ joined_lives (place h == c) p (client_priority h c));
       makes = λ o. places o ∙ k.makes o;
     }
 
@@ -83,12 +83,12 @@ no-room-yet h n view f here k =
 
 -- a client for which there is no room is in no queue
 pub no-room-nowhere : (c : ℕ) (queue queue' : ℕ → List Waiter) (admitted : ℕ → Bool)
-    → ((q : ℕ) → stands_in c (queue q) ≡ true → admitted c ≡ true) → admitted c ≡ false
-    → ((q : ℕ) → queue' q ≡ queue q) → (q : ℕ) → stands_in c (queue' q) ≡ false
+    → ((q : ℕ) → is_queued_in c (queue q) ≡ true → admitted c ≡ true) → admitted c ≡ false
+    → ((q : ℕ) → queue' q ≡ queue q) → (q : ℕ) → is_queued_in c (queue' q) ≡ false
 no-room-nowhere c queue queue' admitted law none same q =
-    ap (stands_in c) (same q) ∙ go (stands_in c (queue q)) refl
+    ap (is_queued_in c) (same q) ∙ go (is_queued_in c (queue q)) refl
   where
-    go : (b : Bool) → stands_in c (queue q) ≡ b → b ≡ false
+    go : (b : Bool) → is_queued_in c (queue q) ≡ b → b ≡ false
     go true e = absurd (false≢true (sym none ∙ law q e))
     go false e = refl
 
@@ -96,8 +96,8 @@ no-room-nowhere c queue queue' admitted law none same q =
 pub room-back : (c : ℕ) (before between after : ℕ → Bool) → before c ≡ false
     → ((d : ℕ) → between d ≡ ((c == d) || before d))
     → ((d : ℕ) → after d ≡ (not (c == d) && between d)) → (d : ℕ) → after d ≡ before d
-room-back c before between after none made back d =
-    back d ∙ (ap (λ b. not (c == d) && b) (made d) ∙ go (c == d) refl)
+room-back c before between after none is_queue back d =
+    back d ∙ (ap (λ b. not (c == d) && b) (is_queue d) ∙ go (c == d) refl)
   where
     go : (b : Bool) → (c == d) ≡ b → (not b && (b || before d)) ≡ before d
     go true e =
@@ -111,17 +111,17 @@ died_lives false o = refl
 
 -- the death of a client removes its call from the queues, and its room
 pub queued-death : (h : History) (c : ℕ) (view view' : QueuesView)
-    → ((q : ℕ) → view'.queue q ≡ without c (view.queue q))
+    → ((q : ℕ) → view'.queue q ≡ other_waiters c (view.queue q))
     → ((d : ℕ) → view'.admitted d ≡ (not (c == d) && view.admitted d))
-    → ((o : ℕ) → view'.made o ≡ view.made o)
+    → ((o : ℕ) → view'.is_queue o ≡ view.is_queue o)
     → IsQueued h view → IsQueued (h ▷ Death c) view'
 queued-death h c view view' queues rooms places k =
     record {
-      members = subst (λ (ws : List WaitingCall). Members (at_object h) (waiter h) ws view'.queue)
+      members = subst (λ (ws : List WaitingCall). Members (wait_object h) (waiter h) ws view'.queue)
           (sym (open-death h c))
-          (members-out (at_object h) (waiter h) (open_calls h) c view.queue view'.queue queues
+          (members-out (wait_object h) (waiter h) (open_calls h) c view.queue view'.queue queues
           k.members);
       admits = λ d. rooms d ∙ ap (λ b. not (c == d) && b) (k.admits d)
-          ∙ died_lives (c == d) (client h d);
+          ∙ died_lives (c == d) (client_priority h d);
       makes = λ o. places o ∙ k.makes o;
     }

@@ -7,37 +7,37 @@ use Rattle.std.proofs.lemmas.Bool.{false≢true, and_parts}
 use Rattle.std.proofs.lemmas.List.Filters.{length-filter_both}
 use Rattle.std.specs.List.{AllByRecursion as Each}
 use Rattle.pt_types.specs.Times.{pair_before}
-use Rattle.pt_types.specs.KeyOrder.{rank}
+use Rattle.pt_types.specs.KeyOrder.{kind_rank}
 use Rattle.pt_waitq.specs.declared.waiter.Waiter.{Waiter}
 use Rattle.pt_waitq.specs.Queues.{queues_of, In, arrival, comes_before, is_like, insert_in_order}
-use Rattle.pt_waitq.specs.Queues.{head_of, stands_in, without}
+use Rattle.pt_waitq.specs.Queues.{head_of, is_queued_in, other_waiters}
 use Rattle.pt_waitq.specs.Members.{Members}
 use Rattle.pt_waitq.specs.ListLemmas.{In-filter, any-in, any-out, any-without}
 use Rattle.pt_waitq.proofs.MemberLemmas.{members-agree, members-move, head-first, head-in}
-use Rattle.pt_waitq.proofs.CallerLemmas.{head-stands, without-stands}
+use Rattle.pt_waitq.proofs.CallerLemmas.{head-stands, other_waiters-stands}
 use Rattle.pt_model.specs.Histories.{History, place}
 use Rattle.pt_model.specs.Clients.{is_alive}
 use Rattle.pt_model.specs.Objects.{kind_of}
 use Rattle.pt_model.specs.declared.waiting_call.WaitingCall.{WaitingCall}
 use Rattle.pt_model.specs.declared.waiting_call.Move.{Move}
 use Rattle.pt_model.specs.Answers.{open_calls}
-use Rattle.pt_model.specs.Moves.{arrival_by, moved, object_by, at_object, waiting_at}
-use Rattle.pt_model.specs.Verdicts.{bound_by}
+use Rattle.pt_model.specs.Moves.{arrival_by, wait_move, wait_object_by, wait_object, waiting_at}
+use Rattle.pt_model.specs.Verdicts.{bound_mutex}
 use Rattle.pt_model.proofs.Lists.{false_by}
 use Rattle.pt_model.proofs.Found.{open_alive}
 use Rattle.pt_model.proofs.OneEach.{one_each}
-use Rattle.pt_machine.specs.Queued.{waiter_by, waiter, IsQueued, CanStand}
+use Rattle.pt_machine.specs.CallQueues.{waiter_by, waiter, IsQueued, CanEnqueue}
 use Rattle.pt_machine.proofs.ArrivalBounds.{arrival-below, object-there}
 use Rattle.pt_machine.proofs.Broadcasts.{Broadcast, was, came, rouses, away, spares, goes}
 use Rattle.pt_machine.proofs.PlaceTakes.{Takes}
 
 -- the move of a call so far: those in this queue have not been moved yet
 abbrev pub move_now : History → History → List Waiter → WaitingCall → Option Move
-move_now h g ws w = cond (stands_in w.client ws) (moved h w.place) (moved g w.place)
+move_now h g ws w = cond (is_queued_in w.client ws) (wait_move h w.place) (wait_move g w.place)
 
 -- the object at which the call waits so far
 abbrev pub object_now : History → History → List Waiter → WaitingCall → ℕ
-object_now h g ws w = object_by w.role (move_now h g ws w) w.object
+object_now h g ws w = wait_object_by w.role (move_now h g ws w) w.object
 
 -- the waiter of the call so far
 abbrev pub waiter_now : History → History → List Waiter → WaitingCall → Waiter
@@ -45,35 +45,35 @@ waiter_now h g ws w = waiter_by (move_now h g ws w) w
 
 -- between h and g the waits at q are moved to their mutexes; none that is still at q goes before
 -- one that was moved
-pub record IsRousing (h g : History) (q : ℕ) (queue : ℕ → List Waiter) (admitted made : ℕ → Bool)
+pub record IsRousing (h g : History) (q : ℕ) (queue : ℕ → List Waiter) (admitted is_queue : ℕ → Bool)
     : Type 0 where
   pub by : Broadcast h g q
   pub members : Members (object_now h g (queue q)) (waiter_now h g (queue q)) (open_calls g) queue
-  pub turns : (w x : WaitingCall) → In w (open_calls g) → In x (open_calls g) → at_object h w ≡ q
-      → stands_in w.client (queue q) ≡ false → stands_in x.client (queue q) ≡ true
+  pub turns : (w x : WaitingCall) → In w (open_calls g) → In x (open_calls g) → wait_object h w ≡ q
+      → is_queued_in w.client (queue q) ≡ false → is_queued_in x.client (queue q) ≡ true
       → comes_before (waiter h x) (waiter h w) ≡ false
   pub admits : (c : ℕ) → admitted c ≡ is_alive g c
-  pub makes : (o : ℕ) → made o ≡ is_some (kind_of g o)
+  pub makes : (o : ℕ) → is_queue o ≡ is_some (kind_of g o)
 
 Each-from : (P : Waiter → Type 0) (ws : List Waiter) → ((v : Waiter) → In v ws → P v) → Each P ws
 Each-from P [] f = tt
 Each-from P (v ∷ vs) f = (f v (inl refl), Each-from P vs (λ u i. f u (inr i)))
 
 -- a queue has the client of each of its waiters
-stands : (ws : List Waiter) (v : Waiter) → In v ws → stands_in v.client ws ≡ true
-stands ws v i = any-in (λ (u : Waiter). u.client == v.client) ws v i (eq-eqb v.client v.client refl)
+is_waiting : (ws : List Waiter) (v : Waiter) → In v ws → is_queued_in v.client ws ≡ true
+is_waiting ws v i = any-in (λ (u : Waiter). u.client == v.client) ws v i (eq-eqb v.client v.client refl)
 
 -- a queue without its head is shorter
-without-shorter : (ws : List Waiter) (v : Waiter) → head_of ws ≡ Some v
-    → length (without v.client ws) < length ws
-without-shorter [] v e = absurd cc
-without-shorter (u ∷ us) v e =
+other_waiters-shorter : (ws : List Waiter) (v : Waiter) → head_of ws ≡ Some v
+    → length (other_waiters v.client ws) < length ws
+other_waiters-shorter [] v e = absurd cc
+other_waiters-shorter (u ∷ us) v e =
     let same : u ≡ v = cc in
     let own : u.client ≡ v.client = ap (λ (x : Waiter). x.client) same in
     let its : (u.client == v.client) ≡ true = eq-eqb u.client v.client own in
     let both = length-filter_both (λ (x : Waiter). x.client == v.client)
     (λ (x : Waiter). not (x.client == v.client)) (λ x. refl) us in
-    let less : length (without v.client us) < suc (length us) = omega (arith, both) in
+    let less : length (other_waiters v.client us) < suc (length us) = omega (arith, both) in
     rw its less
 
 -- of two waiters of the same priority that one entry moved, the one that came later goes after the
@@ -95,40 +95,43 @@ nothing [] e = refl
 nothing (v ∷ vs) e = absurd cc
 
 -- the queues when the broadcast comes
-pub rousing-begins : {h g : History} {q : ℕ} {queue : ℕ → List Waiter} {admitted made : ℕ → Bool}
+pub rousing-begins : {h g : History} {q : ℕ} {queue : ℕ → List Waiter} {admitted is_queue : ℕ → Bool}
     → Broadcast h g q
-    → IsQueued h (queues_of queue admitted made) → IsRousing h g q queue admitted made
+    → IsQueued h (queues_of queue admitted is_queue) → IsRousing h g q queue admitted is_queue
 rousing-begins {h = h} {g = g} {q = q} {queue = queue} b k =
     record {
       by = b;
       members = subst (λ (ws : List WaitingCall).
           Members (object_now h g (queue q)) (waiter_now h g (queue q)) ws queue) (sym b.calls)
-          (members-agree (at_object h) (object_now h g (queue q)) (waiter h)
+          (members-agree (wait_object h) (object_now h g (queue q)) (waiter h)
           (waiter_now h g (queue q)) (open_calls h) queue
-          (λ w i. let same = as_before w i in
-          (ap (λ x. object_by w.role x w.object) same, ap (λ x. waiter_by x w) same)) k.members);
+          (λ w i. let same = as_before w i in (
+            ap (λ x. wait_object_by w.role x w.object) same,
+            ap
+                (λ x. waiter_by x w) same,
+          )) k.members);
       turns = λ w x i j e n t. absurd (false≢true (sym n ∙ there w (was b w i) e));
       admits = λ c. k.admits c ∙ sym (b.alive c);
       makes = λ o. k.makes o ∙ ap is_some (sym (b.kinds o));
     }
   where
-    there : (w : WaitingCall) → In w (open_calls h) → at_object h w ≡ q
-        → stands_in w.client (queue q) ≡ true
+    there : (w : WaitingCall) → In w (open_calls h) → wait_object h w ≡ q
+        → is_queued_in w.client (queue q) ≡ true
     there w i e =
-        stands (queue q) (waiter h w)
-        (subst (λ (r : ℕ). In (waiter h w) (queue r)) e (k.members.held w i))
+        is_waiting (queue q) (waiter h w)
+        (subst (λ (r : ℕ). In (waiter h w) (queue r)) e (k.members.in_queue w i))
 
     as_before : (w : WaitingCall) → In w (open_calls h)
-        → move_now h g (queue q) w ≡ moved h w.place
-    as_before w i = go (stands_in w.client (queue q)) refl
+        → move_now h g (queue q) w ≡ wait_move h w.place
+    as_before w i = go (is_queued_in w.client (queue q)) refl
       where
-        go : (t : Bool) → stands_in w.client (queue q) ≡ t
-            → cond t (moved h w.place) (moved g w.place) ≡ moved h w.place
+        go : (t : Bool) → is_queued_in w.client (queue q) ≡ t
+            → cond t (wait_move h w.place) (wait_move g w.place) ≡ wait_move h w.place
         go true e = refl
         go false e =
             spares b w (subst (λ (ws : List WaitingCall). In w ws) (sym b.calls) i)
-            (false_by (at_object h w == q) (λ t.
-            let at : at_object h w ≡ q = grind (arith, nat_tests) in
+            (false_by (wait_object h w == q) (λ t.
+            let at : wait_object h w ≡ q = grind (arith, nat_tests) in
             false≢true (sym e ∙ there w i at)))
 
 -- the call whose waiter is the first at the condition
@@ -136,15 +139,15 @@ record IsNext (h g : History) (ws : List Waiter) (q : ℕ) (first : Waiter) : Ty
   pub call : WaitingCall
   pub «open» : In call (open_calls g)
   pub its : first.client ≡ call.client
-  pub here : stands_in call.client ws ≡ true
-  pub at : at_object h call ≡ q
+  pub here : is_queued_in call.client ws ≡ true
+  pub at : wait_object h call ≡ q
   pub same : first ≡ waiter h call
 
-module _ {h g : History} {q : ℕ} {queue : ℕ → List Waiter} {admitted made : ℕ → Bool}
-    (k : IsRousing h g q queue admitted made) where
+module _ {h g : History} {q : ℕ} {queue : ℕ → List Waiter} {admitted is_queue : ℕ → Bool}
+    (k : IsRousing h g q queue admitted is_queue) where
   -- the queues after all waits have left the condition
   pub rousing-ends : {found : Option Waiter} → found ≡ head_of (queue q) → found ≡ None
-      → IsQueued g (queues_of queue admitted made)
+      → IsQueued g (queues_of queue admitted is_queue)
   rousing-ends e n =
       record {
         members = subst (λ (ws : List Waiter).
@@ -155,35 +158,36 @@ module _ {h g : History} {q : ℕ} {queue : ℕ → List Waiter} {admitted made 
       }
 
   -- a call that is still at the condition was there before
-  stood-here : (w : WaitingCall) → In w (open_calls g) → stands_in w.client (queue q) ≡ true
-      → at_object h w ≡ q
+  stood-here : (w : WaitingCall) → In w (open_calls g) → is_queued_in w.client (queue q) ≡ true
+      → wait_object h w ≡ q
   stood-here w i s =
       let v = any-out (λ (v : Waiter). v.client == w.client) (queue q) s in
-      let r = k.members.known q v.0 v.1 in
+      let r = k.members.has_call q v.0 v.1 in
       let its : v.0.client ≡ w.client = grind (arith, nat_tests, v.2) in
       let own : r.0.client ≡ w.client = ap (λ (x : Waiter). x.client) (sym r.3) ∙ its in
       let same : r.0 ≡ w = one_each g k.by.after r.0 w r.1 i own in
       let at : object_now h g (queue q) w ≡ q = ap (object_now h g (queue q)) (sym same)
       ∙ r.2 in
-      ap (λ t. object_by w.role (cond t (moved h w.place) (moved g w.place)) w.object) (sym s)
+      ap (λ t. wait_object_by w.role (cond t (wait_move h w.place) (wait_move g w.place)) w.object)
+      (sym s)
       ∙ at
 
   -- and waits there as it did
-  waits-here : (w : WaitingCall) → In w (open_calls g) → stands_in w.client (queue q) ≡ true
+  waits-here : (w : WaitingCall) → In w (open_calls g) → is_queued_in w.client (queue q) ≡ true
       → In (waiter h w) (queue q)
   waits-here w i s =
       subst (λ (r : ℕ). In (waiter h w) (queue r)) (stood-here w i s)
-      (subst (λ (t : Bool). In (waiter_by (cond t (moved h w.place) (moved g w.place)) w)
-      (queue (object_by w.role (cond t (moved h w.place) (moved g w.place)) w.object)))
-      s (k.members.held w i))
+      (subst (λ (t : Bool). In (waiter_by (cond t (wait_move h w.place) (wait_move g w.place)) w)
+      (queue (wait_object_by w.role (cond t (wait_move h w.place) (wait_move g w.place)) w.object)))
+      s (k.members.in_queue w i))
 
   -- a call that waits elsewhere is no longer in the condition's queue
   gone : (w : WaitingCall) → In w (open_calls g) → (o : ℕ) → (o == q) ≡ false
-      → object_now h g (queue q) w ≡ o → stands_in w.client (queue q) ≡ false
+      → object_now h g (queue q) w ≡ o → is_queued_in w.client (queue q) ≡ false
   gone w i o n e =
-      false_by (stands_in w.client (queue q)) (λ s.
-      let now : at_object h w ≡ o =
-      ap (λ t. object_by w.role (cond t (moved h w.place) (moved g w.place)) w.object)
+      false_by (is_queued_in w.client (queue q)) (λ s.
+      let now : wait_object h w ≡ o =
+      ap (λ t. wait_object_by w.role (cond t (wait_move h w.place) (wait_move g w.place)) w.object)
       (sym s) ∙ e in
       false≢true (sym n ∙ eq-eqb o q (sym now ∙ stood-here w i s)))
 
@@ -194,10 +198,10 @@ module _ {h g : History} {q : ℕ} {queue : ℕ → List Waiter} {admitted made 
 
     next : IsNext h g (queue q) q first
     next =
-        let r = k.members.known q first (head-in (queue q) first is) in
+        let r = k.members.has_call q first (head-in (queue q) first is) in
         let its : first.client ≡ r.0.client = ap (λ (v : Waiter). v.client) r.3 in
-        let here : stands_in r.0.client (queue q) ≡ true =
-        ap (λ n. stands_in n (queue q)) (sym its) ∙ head-stands (queue q) first is in
+        let here : is_queued_in r.0.client (queue q) ≡ true =
+        ap (λ n. is_queued_in n (queue q)) (sym its) ∙ head-stands (queue q) first is in
         record {
           call = r.0;
           «open» = r.1;
@@ -205,17 +209,18 @@ module _ {h g : History} {q : ℕ} {queue : ℕ → List Waiter} {admitted made 
           here = here;
           at = stood-here r.0 r.1 here;
           same = r.3
-              ∙ ap (λ t. waiter_by (cond t (moved h r.0.place) (moved g r.0.place)) r.0) here;
+              ∙ ap (λ t. waiter_by (cond t (wait_move h r.0.place)
+              (wait_move g r.0.place)) r.0) here;
         }
 
     -- the first of them, after its move, waits at the mutex that was bound to the condition
-    pub rousing-takes : {m : ℕ} {v : Waiter} → m ≡ unwrap_or (bound_by (waiting_at h q)) 0
+    pub rousing-takes : {m : ℕ} {v : Waiter} → m ≡ unwrap_or (bound_mutex (waiting_at h q)) 0
         → v ≡ record first { moved = place h } → Takes g first.client m v
     rousing-takes {m = m} {v = v} m_is v_is =
         record {
           seat = λ w i e.
               m_is
-              ∙ (sym (goes k.by next.call next.open next.at) ∙ ap (at_object g) (its w i e));
+              ∙ (sym (goes k.by next.call next.open next.at) ∙ ap (wait_object g) (its w i e));
           same = λ w i e.
               v_is
               ∙ (ap (λ (x : Waiter). record x { moved = place h }) next.same
@@ -227,39 +232,39 @@ module _ {h g : History} {q : ℕ} {queue : ℕ → List Waiter} {admitted made 
         its w i e = sym (one_each g k.by.after w next.call i next.open (e ∙ next.its))
 
     -- each waiter at its mutex was there before, or was moved there ahead of it
-    behind : (v : Waiter) → In v (queue (at_object g next.call))
+    behind : (v : Waiter) → In v (queue (wait_object g next.call))
         → (is_like v (waiter g next.call)
         && pair_before (arrival (waiter g next.call)) (arrival v)) ≡ false
     behind v i =
         ap (λ (y : Waiter). is_like y (waiter g next.call)
         && pair_before (arrival (waiter g next.call)) (arrival y))
-        (r.3 ∙ ap (λ t. waiter_by (cond t (moved h x.place) (moved g x.place)) x) left)
-        ∙ go (at_object h x == q) refl
+        (r.3 ∙ ap (λ t. waiter_by (cond t (wait_move h x.place) (wait_move g x.place)) x) left)
+        ∙ go (wait_object h x == q) refl
       where
         u : WaitingCall
         u = next.call
 
         r : (w : WaitingCall) × In w (open_calls g)
-            × (object_now h g (queue q) w ≡ at_object g next.call)
+            × (object_now h g (queue q) w ≡ wait_object g next.call)
             × (v ≡ waiter_now h g (queue q) w)
-        r = k.members.known (at_object g next.call) v i
+        r = k.members.has_call (wait_object g next.call) v i
 
         x : WaitingCall
         x = r.0
 
-        left : stands_in x.client (queue q) ≡ false
-        left = gone x r.1 (at_object g u) (away k.by u next.open next.at) r.2
+        left : is_queued_in x.client (queue q) ≡ false
+        left = gone x r.1 (wait_object g u) (away k.by u next.open next.at) r.2
 
         new : (waiter g u).moved ≡ place h
         new = ap (λ y. (arrival_by y u.place).0) (rouses k.by u next.open next.at)
 
-        go : (t : Bool) → (at_object h x == q) ≡ t
+        go : (t : Bool) → (wait_object h x == q) ≡ t
             → (is_like (waiter g x) (waiter g u)
             && pair_before (arrival (waiter g u)) (arrival (waiter g x))) ≡ false
         go true e =
-            let stood : at_object h x ≡ q = grind (arith, nat_tests) in
-            later-behind (waiter h u).prio (waiter h x).prio (rank (waiter h u).writer)
-            (rank (waiter h x).writer) (waiter h u).moved (waiter h x).moved u.place x.place
+            let stood : wait_object h x ≡ q = grind (arith, nat_tests) in
+            later-behind (waiter h u).prio (waiter h x).prio (kind_rank (waiter h u).writer)
+            (kind_rank (waiter h x).writer) (waiter h u).moved (waiter h x).moved u.place x.place
             (waiter g u).moved (waiter g x).moved (came k.by u next.open next.at)
             (came k.by x r.1 stood)
             (new ∙ sym (ap (λ y. (arrival_by y x.place).0) (rouses k.by x r.1 stood)))
@@ -273,11 +278,11 @@ module _ {h g : History} {q : ℕ} {queue : ℕ → List Waiter} {admitted made 
             u.place x.place (omega (arith, old, same, new))
 
     module _ {queue1 : ℕ → List Waiter}
-        (out : (r : ℕ) → queue1 r ≡ without first.client (queue r)) where
+        (out : (r : ℕ) → queue1 r ≡ other_waiters first.client (queue r)) where
       -- the first of them may take its place at its mutex
       pub rousing-stands : {admitted1 made1 : ℕ → Bool}
-          → ((c : ℕ) → admitted1 c ≡ admitted c) → ((o : ℕ) → made1 o ≡ made o)
-          → CanStand g first.client (queues_of queue1 admitted1 made1)
+          → ((c : ℕ) → admitted1 c ≡ admitted c) → ((o : ℕ) → made1 o ≡ is_queue o)
+          → CanEnqueue g first.client (queues_of queue1 admitted1 made1)
       rousing-stands f m =
           record {
             call = next.call;
@@ -285,21 +290,21 @@ module _ {h g : History} {q : ℕ} {queue : ℕ → List Waiter} {admitted made 
             its = sym next.its;
             room = f first.client ∙ (k.admits first.client
                 ∙ (ap (is_alive g) next.its ∙ open_alive g next.call next.open));
-            nowhere = λ r. ap (stands_in first.client) (out r)
-                ∙ without-stands first.client (queue r);
-            there = m (at_object g next.call) ∙ (k.makes (at_object g next.call)
+            nowhere = λ r. ap (is_queued_in first.client) (out r)
+                ∙ other_waiters-stands first.client (queue r);
+            there = m (wait_object g next.call) ∙ (k.makes (wait_object g next.call)
                 ∙ object-there g k.by.after next.call next.open);
-            latest = Each-from _ (queue1 (at_object g next.call)) (λ v i.
-                behind v (In-filter _ (queue (at_object g next.call)) v
-                (subst (λ (ws : List Waiter). In v ws) (out (at_object g next.call)) i)).0);
+            latest = Each-from _ (queue1 (wait_object g next.call)) (λ v i.
+                behind v (In-filter _ (queue (wait_object g next.call)) v
+                (subst (λ (ws : List Waiter). In v ws) (out (wait_object g next.call)) i)).0);
           }
 
       module _ {queue2 : ℕ → List Waiter}
           (put : (w : WaitingCall) → In w (open_calls g) → w.client ≡ first.client → (r : ℕ)
-          → queue2 r ≡ cond (at_object g w == r) (insert_in_order (waiter g w) (queue1 r))
+          → queue2 r ≡ cond (wait_object g w == r) (insert_in_order (waiter g w) (queue1 r))
           (queue1 r)) where
         -- the condition's queue is without the first
-        rest-here : queue2 q ≡ without first.client (queue q)
+        rest-here : queue2 q ≡ other_waiters first.client (queue q)
         rest-here =
             put next.call next.open (sym next.its) q
             ∙ (ap (λ t. cond t (insert_in_order (waiter g next.call) (queue1 q)) (queue1 q))
@@ -308,18 +313,18 @@ module _ {h g : History} {q : ℕ} {queue : ℕ → List Waiter} {admitted made 
         pub rousing-shorter : length (queue2 q) < length (queue q)
         rousing-shorter =
             subst (λ (ws : List Waiter). length ws < length (queue q)) (sym rest-here)
-            (without-shorter (queue q) first is)
+            (other_waiters-shorter (queue q) first is)
 
-        stands-now : (w : WaitingCall) → stands_in w.client (queue2 q)
-            ≡ (not (first.client == w.client) && stands_in w.client (queue q))
+        stands-now : (w : WaitingCall) → is_queued_in w.client (queue2 q)
+            ≡ (not (first.client == w.client) && is_queued_in w.client (queue q))
         stands-now w =
-            ap (stands_in w.client) rest-here
+            ap (is_queued_in w.client) rest-here
             ∙ any-without (λ (v : Waiter). v.client) first.client w.client (queue q)
 
-        gone-now : stands_in next.call.client (queue2 q) ≡ false
+        gone-now : is_queued_in next.call.client (queue2 q) ≡ false
         gone-now =
             stands-now next.call
-            ∙ ap (λ t. not t && stands_in next.call.client (queue q))
+            ∙ ap (λ t. not t && is_queued_in next.call.client (queue q))
             (eq-eqb first.client next.call.client next.its)
 
         only : (w : WaitingCall) → In w (open_calls g) → (first.client == w.client) ≡ true
@@ -332,8 +337,8 @@ module _ {h g : History} {q : ℕ} {queue : ℕ → List Waiter} {admitted made 
         others : (w : WaitingCall) → (first.client == w.client) ≡ false
             → move_now h g (queue2 q) w ≡ move_now h g (queue q) w
         others w e =
-            ap (λ t. cond t (moved h w.place) (moved g w.place))
-            (stands-now w ∙ ap (λ t. not t && stands_in w.client (queue q)) e)
+            ap (λ t. cond t (wait_move h w.place) (wait_move g w.place))
+            (stands-now w ∙ ap (λ t. not t && is_queued_in w.client (queue q)) e)
 
         same_way : (w : WaitingCall) → (first.client == w.client) ≡ (w.client == next.call.client)
         same_way w = turned first.client w.client ∙ ap (λ n. w.client == n) next.its
@@ -348,29 +353,30 @@ module _ {h g : History} {q : ℕ} {queue : ℕ → List Waiter} {admitted made 
             (waiter_now h g (queue q)) (waiter_now h g (queue2 q)) (open_calls g) u queue queue2
             next.open (λ w i e. only w i (same_way w ∙ e))
             (λ w i e. let same = others w (same_way w ∙ e) in
-            (ap (λ x. object_by w.role x w.object) same, ap (λ x. waiter_by x w) same))
+            (ap (λ x. wait_object_by w.role x w.object) same, ap (λ x. waiter_by x w) same))
             (λ r. put u next.open (sym next.its) r
-            ∙ (ap (λ (ws : List Waiter). cond (at_object g u == r)
+            ∙ (ap (λ (ws : List Waiter). cond (wait_object g u == r)
             (insert_in_order (waiter g u) ws) ws)
-            (out r ∙ ap (λ n. without n (queue r)) next.its)
+            (out r ∙ ap (λ n. other_waiters n (queue r)) next.its)
             ∙ ap (λ t. cond
-            (object_by u.role (cond t (moved h u.place) (moved g u.place)) u.object == r)
-            (insert_in_order (waiter_by (cond t (moved h u.place) (moved g u.place)) u)
-            (without u.client (queue r))) (without u.client (queue r))) (sym gone-now)))
+            (wait_object_by u.role (cond t (wait_move h u.place)
+            (wait_move g u.place)) u.object == r)
+            (insert_in_order (waiter_by (cond t (wait_move h u.place) (wait_move g u.place)) u)
+            (other_waiters u.client (queue r))) (other_waiters u.client (queue r))) (sym gone-now)))
             k.members
           where
             u : WaitingCall
             u = next.call
 
         now-turns : (w x : WaitingCall) → In w (open_calls g) → In x (open_calls g)
-            → at_object h w ≡ q → stands_in w.client (queue2 q) ≡ false
-            → stands_in x.client (queue2 q) ≡ true
+            → wait_object h w ≡ q → is_queued_in w.client (queue2 q) ≡ false
+            → is_queued_in x.client (queue2 q) ≡ true
             → comes_before (waiter h x) (waiter h w) ≡ false
         now-turns w x i j e n t = go (first.client == w.client) refl
           where
-            still : stands_in x.client (queue q) ≡ true
+            still : is_queued_in x.client (queue q) ≡ true
             still = (and_parts (not (first.client == x.client))
-                (stands_in x.client (queue q)) (sym (stands-now x) ∙ t)).1
+                (is_queued_in x.client (queue q)) (sym (stands-now x) ∙ t)).1
 
             go : (s : Bool) → (first.client == w.client) ≡ s
                 → comes_before (waiter h x) (waiter h w) ≡ false
@@ -381,12 +387,12 @@ module _ {h g : History} {q : ℕ} {queue : ℕ → List Waiter} {admitted made 
                 (waits-here x j still)
             go false s =
                 k.turns w x i j e
-                (sym (stands-now w ∙ ap (λ r. not r && stands_in w.client (queue q)) s) ∙ n)
+                (sym (stands-now w ∙ ap (λ r. not r && is_queued_in w.client (queue q)) s) ∙ n)
                 still
 
         -- the queues are ready for the next of them
         pub rousing-next : {admitted1 made1 admitted2 made2 : ℕ → Bool}
-            → ((c : ℕ) → admitted1 c ≡ admitted c) → ((o : ℕ) → made1 o ≡ made o)
+            → ((c : ℕ) → admitted1 c ≡ admitted c) → ((o : ℕ) → made1 o ≡ is_queue o)
             → ((c : ℕ) → admitted2 c ≡ admitted1 c) → ((o : ℕ) → made2 o ≡ made1 o)
             → IsRousing h g q queue2 admitted2 made2
         rousing-next f1 m1 f2 m2 =

@@ -7,7 +7,7 @@ use Rattle.pt_types.specs.declared.operations.ObjectClass.TheVariants.{Barrier a
 use Rattle.pt_types.specs.declared.outcome.Outcome.{Outcome}
 use Rattle.pt_waitq.specs.declared.waiter.Waiter.{Waiter}
 use Rattle.pt_waitq.specs.Members.{Members}
-use Rattle.pt_waitq.specs.Queues.{QueuesView, IsInKeyOrder, without}
+use Rattle.pt_waitq.specs.Queues.{QueuesView, IsInKeyOrder, other_waiters}
 use Rattle.pt_waitq.specs.ListLemmas.{In-filter as In-kept}
 use Rattle.pt_waitq.proofs.MemberLemmas.{members-agree, members-out, filter-in}
 use Rattle.pt_model.specs.declared.entry.Entry.{Entry}
@@ -21,30 +21,31 @@ use Rattle.pt_model.specs.declared.waiting_call.Move.{Move}
 use Rattle.pt_model.specs.declared.waiting_call.Role.{Role}
 use Rattle.pt_model.specs.declared.waiting_call.Role.TheVariants.{ForMutex, ForRead, ForWrite}
 use Rattle.pt_model.specs.declared.waiting_call.Role.TheVariants.{ForBarrier, ForCond}
-use Rattle.pt_model.specs.WaitingCall.{is_arrival, is_wait}
+use Rattle.pt_model.specs.WaitingCall.{is_barrier_wait, is_cond_wait}
 use Rattle.pt_model.specs.Answers.{open_calls}
-use Rattle.pt_model.specs.Moves.{moved, move_or, cause_by_expiry, object_by, at_object}
+use Rattle.pt_model.specs.Moves.{wait_move, move_or, cause_by_expiry, wait_object_by, wait_object}
 use Rattle.pt_model.specs.Steps.{Follows}
 use Rattle.pt_model.proofs.Lists.{Each-from_in, filter-agree_on}
 use Rattle.pt_model.proofs.Found.{one_open}
 use Rattle.pt_model.proofs.OneEach.{one_each}
 use Rattle.pt_model.proofs.Opens.{stands_at_barrier, open-grant, open-expire, open-trip}
-use Rattle.pt_model.proofs.Moves.{moved-expire}
+use Rattle.pt_model.proofs.Moves.{wait_move-expire}
 use Rattle.pt_model.proofs.Seats.{exists_as, seat, HousedBy, housed, one_class}
-use Rattle.pt_machine.specs.Queued.{waiter, IsQueued}
+use Rattle.pt_machine.specs.CallQueues.{waiter, IsQueued}
 use Rattle.pt_machine.proofs.QueuedSame.{stands-same}
 
 -- after a change that moves no open call and leaves the same clients and objects, the queues are
 -- right once they have the open calls that are left
-pub queued-still : (h g : History) (view view' : QueuesView) → ((j : ℕ) → moved g j ≡ moved h j)
+pub queued-still : (h g : History) (view view' : QueuesView) → ((j : ℕ) → wait_move g j
+    ≡ wait_move h j)
     → ((c : ℕ) → is_alive g c ≡ is_alive h c) → ((o : ℕ) → kind_of g o ≡ kind_of h o)
-    → ((c : ℕ) → view'.admitted c ≡ view.admitted c) → ((o : ℕ) → view'.made o ≡ view.made o)
+    → ((c : ℕ) → view'.admitted c ≡ view.admitted c) → ((o : ℕ) → view'.is_queue o ≡ view.is_queue o)
     → IsQueued h view
-    → Members (at_object h) (waiter h) (open_calls g) view'.queue
+    → Members (wait_object h) (waiter h) (open_calls g) view'.queue
     → IsQueued g view'
 queued-still h g view view' moves alive kinds room there k m =
     record {
-      members = members-agree (at_object h) (at_object g) (waiter h) (waiter g) (open_calls g)
+      members = members-agree (wait_object h) (wait_object g) (waiter h) (waiter g) (open_calls g)
           view'.queue (λ w i. stands-same h g w (moves w.place)) m;
       admits = λ c. room c ∙ (k.admits c ∙ sym (alive c));
       makes = λ o. there o ∙ (k.makes o ∙ ap is_some (sym (kinds o)));
@@ -73,27 +74,27 @@ same_test h f u i w j = go (w.place == u.place) (w.client == u.client) refl refl
 pub queued-out : (h : History) (e : Entry) (u : WaitingCall) (view view' : QueuesView)
     → Follows h → In u (open_calls h)
     → open_calls (h ▷ e) ≡ filter (λ w. not (w.place == u.place)) (open_calls h)
-    → ((j : ℕ) → moved (h ▷ e) j ≡ moved h j)
+    → ((j : ℕ) → wait_move (h ▷ e) j ≡ wait_move h j)
     → ((c : ℕ) → is_alive (h ▷ e) c ≡ is_alive h c)
     → ((o : ℕ) → kind_of (h ▷ e) o ≡ kind_of h o)
-    → ((q : ℕ) → view'.queue q ≡ without u.client (view.queue q))
-    → ((c : ℕ) → view'.admitted c ≡ view.admitted c) → ((o : ℕ) → view'.made o ≡ view.made o)
+    → ((q : ℕ) → view'.queue q ≡ other_waiters u.client (view.queue q))
+    → ((c : ℕ) → view'.admitted c ≡ view.admitted c) → ((o : ℕ) → view'.is_queue o ≡ view.is_queue o)
     → IsQueued h view → IsQueued (h ▷ e) view'
 queued-out h e u view view' f i calls moves alive kinds gone room there k =
     queued-still h (h ▷ e) view view' moves alive kinds room there k
-    (subst (λ ws. Members (at_object h) (waiter h) ws view'.queue)
+    (subst (λ ws. Members (wait_object h) (waiter h) ws view'.queue)
     (sym (calls ∙ filter-agree_on (λ (w : WaitingCall). not (w.place == u.place))
     (λ (w : WaitingCall). not (w.client == u.client)) (open_calls h)
     (Each-from_in (λ (w : WaitingCall). not (w.place == u.place) ≡ not (w.client == u.client))
     (open_calls h) (λ w j. ap not (same_test h f u i w j)))))
-    (members-out (at_object h) (waiter h) (open_calls h) u.client view.queue view'.queue gone
+    (members-out (wait_object h) (waiter h) (open_calls h) u.client view.queue view'.queue gone
     k.members))
 
 -- a Grant ends its call
 pub queued-grant : (h : History) (x : Outcome) (u : WaitingCall) (view view' : QueuesView)
     → Follows h → In u (open_calls h)
-    → ((q : ℕ) → view'.queue q ≡ without u.client (view.queue q))
-    → ((c : ℕ) → view'.admitted c ≡ view.admitted c) → ((o : ℕ) → view'.made o ≡ view.made o)
+    → ((q : ℕ) → view'.queue q ≡ other_waiters u.client (view.queue q))
+    → ((c : ℕ) → view'.admitted c ≡ view.admitted c) → ((o : ℕ) → view'.is_queue o ≡ view.is_queue o)
     → IsQueued h view → IsQueued (h ▷ Grant u.place x) view'
 queued-grant h x u view view' f i gone room there k =
     queued-out h (Grant u.place x) u view view' f i
@@ -101,17 +102,17 @@ queued-grant h x u view view' f i gone room there k =
 
 -- an Expire of a call that is not a wait ends it
 pub queued-expire : (h : History) (u : WaitingCall) (view view' : QueuesView) → Follows h
-    → In u (open_calls h) → is_wait u.role ≡ false
-    → ((q : ℕ) → view'.queue q ≡ without u.client (view.queue q))
-    → ((c : ℕ) → view'.admitted c ≡ view.admitted c) → ((o : ℕ) → view'.made o ≡ view.made o)
+    → In u (open_calls h) → is_cond_wait u.role ≡ false
+    → ((q : ℕ) → view'.queue q ≡ other_waiters u.client (view.queue q))
+    → ((c : ℕ) → view'.admitted c ≡ view.admitted c) → ((o : ℕ) → view'.is_queue o ≡ view.is_queue o)
     → IsQueued h view → IsQueued (h ▷ Expire u.place) view'
 queued-expire h u view view' f i other gone room there k =
     queued-out h (Expire u.place) u view view' f i
     (open-expire h u f i
     ∙ ap (λ b. filter (λ w. b || not (w.place == u.place)) (open_calls h)) other)
-    (λ j. moved-expire h u f i j
-    ∙ (ap (λ b. move_or (place h) (cause_by_expiry (u.place == j) b) (moved h j)) other
-    ∙ unmoved (u.place == j) (moved h j)))
+    (λ j. wait_move-expire h u f i j
+    ∙ (ap (λ b. move_or (place h) (cause_by_expiry (u.place == j) b) (wait_move h j)) other
+    ∙ unmoved (u.place == j) (wait_move h j)))
     (λ c. refl) (λ o. refl) gone room there k
   where
     unmoved : (b : Bool) (o : Option Move) → move_or (place h) (cause_by_expiry b false) o ≡ o
@@ -126,12 +127,12 @@ members-clear : {X : Type 0} (at : X → ℕ) (waiter : X → Waiter) (calls : L
 members-clear {X} at waiter calls b queue queue' f k =
     record {
       in_order = λ q. subst IsInKeyOrder (sym (f q)) (in_order q (b == q));
-      known = λ q v i.
+      has_call = λ q v i.
           from q v (b == q) refl (subst (λ (xs : List Waiter). In v xs) (f q) i);
-      held = λ w i.
+      in_queue = λ w i.
           let j = In-kept others calls w i in
           subst (λ (xs : List Waiter). In (waiter w) xs) (sym (f (at w)))
-          (to w (b == at w) refl j.1 (k.held w j.0));
+          (to w (b == at w) refl j.1 (k.in_queue w j.0));
     }
   where
     others : X → Bool
@@ -145,7 +146,7 @@ members-clear {X} at waiter calls b queue queue' f k =
         → (w : X) × In w (filter others calls) × (at w ≡ q) × (v ≡ waiter w)
     from q v true e i = absurd i
     from q v false e i =
-        let r = k.known q v i in
+        let r = k.has_call q v i in
         let here : at r.0 ≡ q = r.2 in
         let apart : (at r.0 == b) ≡ false = grind (arith, nat_tests) in
         (r.0, filter-in others calls r.0 r.1 (ap not apart), r.2, r.3)
@@ -164,19 +165,19 @@ members-clear {X} at waiter calls b queue queue' f k =
 -- a call waits at a barrier exactly if it is an arrival there
 pub arrived : (h : History) (role : Role) (o : Option Move) (object b : ℕ)
     → HousedBy h role o object → exists_as h BarrierClass b ≡ true
-    → (object_by role o object == b) ≡ (is_arrival role && (object == b))
+    → (wait_object_by role o object == b) ≡ (is_barrier_wait role && (object == b))
 arrived h role o object b housed_at barrier = go role refl
   where
     at_other : (r : Role) → role ≡ r → (seat r o ≡ BarrierClass → ⊥)
-        → (object_by r o object == b) ≡ false
-    at_other r e unlike = test (object_by r o object == b) refl
+        → (wait_object_by r o object == b) ≡ false
+    at_other r e unlike = test (wait_object_by r o object == b) refl
       where
-        test : (t : Bool) → (object_by r o object == b) ≡ t → t ≡ false
+        test : (t : Bool) → (wait_object_by r o object == b) ≡ t → t ≡ false
         test false q = refl
         test true q =
-            let at : object_by r o object ≡ b = grind (arith, nat_tests) in
-            let there : exists_as h (seat r o) (object_by r o object) ≡ true =
-            subst (λ (x : Role). exists_as h (seat x o) (object_by x o object) ≡ true) e
+            let at : wait_object_by r o object ≡ b = grind (arith, nat_tests) in
+            let there : exists_as h (seat r o) (wait_object_by r o object) ≡ true =
+            subst (λ (x : Role). exists_as h (seat x o) (wait_object_by x o object) ≡ true) e
             housed_at.0 in
             absurd (unlike (one_class (kind_of h b) (seat r o) BarrierClass
             (subst (λ k. exists_as h (seat r o) k ≡ true) at there) barrier))
@@ -186,7 +187,7 @@ arrived h role o object b housed_at barrier = go role refl
     of_wait m (Some v) e = cc
 
     go : (r : Role) → role ≡ r
-        → (object_by role o object == b) ≡ (is_arrival role && (object == b))
+        → (wait_object_by role o object == b) ≡ (is_barrier_wait role && (object == b))
     go ForBarrier e = rw e refl
     go ForMutex e = rw e (at_other ForMutex e (λ s. cc))
     go ForRead e = rw e (at_other ForRead e (λ s. cc))
@@ -195,35 +196,38 @@ arrived h role o object b housed_at barrier = go role refl
 
 -- the object of an arrival is a barrier
 pub barrier-of : (h : History) → Follows h → (u : WaitingCall) → In u (open_calls h)
-    → is_arrival u.role ≡ true → exists_as h BarrierClass u.object ≡ true
+    → is_barrier_wait u.role ≡ true → exists_as h BarrierClass u.object ≡ true
 barrier-of h f u i arrival = barrier u.role refl arrival
   where
-    barrier : (r : Role) → u.role ≡ r → is_arrival u.role ≡ true
+    barrier : (r : Role) → u.role ≡ r → is_barrier_wait u.role ≡ true
         → exists_as h BarrierClass u.object ≡ true
     barrier ForBarrier e t =
-        (subst (λ (x : Role). HousedBy h x (moved h u.place) u.object) e (housed h f u i)).0
-    barrier ForMutex e t = let no : is_arrival ForMutex ≡ true = ap is_arrival (sym e) ∙ t in cc
-    barrier ForRead e t = let no : is_arrival ForRead ≡ true = ap is_arrival (sym e) ∙ t in cc
-    barrier ForWrite e t = let no : is_arrival ForWrite ≡ true = ap is_arrival (sym e) ∙ t in cc
+        (subst (λ (x : Role). HousedBy h x (wait_move h u.place) u.object) e (housed h f u i)).0
+    barrier ForMutex e t = let no : is_barrier_wait ForMutex ≡ true = ap is_barrier_wait (sym e)
+        ∙ t in cc
+    barrier ForRead e t = let no : is_barrier_wait ForRead ≡ true = ap is_barrier_wait (sym e)
+        ∙ t in cc
+    barrier ForWrite e t = let no : is_barrier_wait ForWrite ≡ true = ap is_barrier_wait (sym e)
+        ∙ t in cc
     barrier (ForCond m) e t =
-        let no : is_arrival (ForCond m) ≡ true = ap is_arrival (sym e) ∙ t in cc
+        let no : is_barrier_wait (ForCond m) ≡ true = ap is_barrier_wait (sym e) ∙ t in cc
 
 -- a Trip ends the calls at its barrier
 pub queued-trip : (h : History) (u : WaitingCall) (view view' : QueuesView) → Follows h
-    → In u (open_calls h) → is_arrival u.role ≡ true
+    → In u (open_calls h) → is_barrier_wait u.role ≡ true
     → ((q : ℕ) → view'.queue q ≡ cond (u.object == q) [] (view.queue q))
-    → ((c : ℕ) → view'.admitted c ≡ view.admitted c) → ((o : ℕ) → view'.made o ≡ view.made o)
+    → ((c : ℕ) → view'.admitted c ≡ view.admitted c) → ((o : ℕ) → view'.is_queue o ≡ view.is_queue o)
     → IsQueued h view → IsQueued (h ▷ Trip u.object) view'
 queued-trip h u view view' f i arrival gone room there k =
     queued-still h (h ▷ Trip u.object) view view' (λ j. refl)
     (λ c. refl) (λ o. refl) room there k
-    (subst (λ ws. Members (at_object h) (waiter h) ws view'.queue)
+    (subst (λ ws. Members (wait_object h) (waiter h) ws view'.queue)
     (sym (open-trip h u.object f
     ∙ filter-agree_on (λ (w : WaitingCall). not (stands_at_barrier u.object w))
-    (λ (w : WaitingCall). not (at_object h w == u.object)) (open_calls h)
+    (λ (w : WaitingCall). not (wait_object h w == u.object)) (open_calls h)
     (Each-from_in (λ (w : WaitingCall). not (stands_at_barrier u.object w)
-    ≡ not (at_object h w == u.object)) (open_calls h)
-    (λ w j. ap not (sym (arrived h w.role (moved h w.place) w.object u.object (housed h f w j)
+    ≡ not (wait_object h w == u.object)) (open_calls h)
+    (λ w j. ap not (sym (arrived h w.role (wait_move h w.place) w.object u.object (housed h f w j)
     (barrier-of h f u i arrival)))))))
-    (members-clear (at_object h) (waiter h) (open_calls h) u.object view.queue view'.queue gone
+    (members-clear (wait_object h) (waiter h) (open_calls h) u.object view.queue view'.queue gone
     k.members))

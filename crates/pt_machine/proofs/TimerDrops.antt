@@ -9,11 +9,11 @@ use Rattle.pt_types.specs.Times.{Timespec}
 use Rattle.pt_timers.specs.Deadlines.{IsLeast, deadline_at}
 use Rattle.pt_table.specs.declared.clients.ClientRow.{ClientRow}
 use Rattle.pt_table.specs.ClientRows.{nth_value}
-use Rattle.pt_model.specs.Found.{passes}
+use Rattle.pt_model.specs.Found.{is_some_and}
 use Rattle.pt_records.specs.declared.clients.Caller.{Caller}
 use Rattle.pt_records.specs.declared.clients.Open.{Open}
 use Rattle.pt_records.specs.Callers.{open_in, opens_of}
-use Rattle.pt_machine.specs.Timed.{was_moved_at}
+use Rattle.pt_machine.specs.CallDeadlines.{was_moved_at}
 
 -- whether the entry at place k moved the call at place p
 abbrev pub went : ℕ → ℕ → Open → Bool
@@ -32,26 +32,27 @@ or_later true b c d e = refl
 or_later false b c d e = e
 
 any_first : (q : Open → Bool) (first : Option Open) (os : List Open)
-    → list_any q (cons_option first os) ≡ (passes q first || list_any q os)
+    → list_any q (cons_option first os) ≡ (is_some_and q first || list_any q os)
 any_first q None os = refl
 any_first q (Some o) os = refl
 
 -- a test of the calls in one more row
 any-more : (q : Open → Bool) (rows : List (ClientRow Caller)) (i : ℕ)
     → list_any q (opens_of (take (i + 1) rows))
-    ≡ (list_any q (opens_of (take i rows)) || passes q (open_in (nth_value rows i)))
+    ≡ (list_any q (opens_of (take i rows)) || is_some_and q (open_in (nth_value rows i)))
 any-more q rows i = ap (λ n. list_any q (opens_of (take n rows))) (add-one i) ∙ more rows i
   where
     more : (rows : List (ClientRow Caller)) (i : ℕ) → list_any q (opens_of (take (suc i) rows))
-        ≡ (list_any q (opens_of (take i rows)) || passes q (open_in (nth_value rows i)))
+        ≡ (list_any q (opens_of (take i rows)) || is_some_and q (open_in (nth_value rows i)))
     more [] zero = refl
     more [] (suc i) = refl
-    more (row ∷ rows) zero = any_first q row.value.open [] ∙ sym (or_none (passes q row.value.open))
+    more (row ∷ rows) zero = any_first q row.value.open []
+        ∙ sym (or_none (is_some_and q row.value.open))
     more (row ∷ rows) (suc i) =
         any_first q row.value.open (opens_of (take (suc i) rows))
-        ∙ (or_later (passes q row.value.open) (list_any q (opens_of (take i rows))) _ _
+        ∙ (or_later (is_some_and q row.value.open) (list_any q (opens_of (take i rows))) _ _
         (more rows i)
-        ∙ ap (λ b. b || passes q (open_in (nth_value rows i)))
+        ∙ ap (λ b. b || is_some_and q (open_in (nth_value rows i)))
         (sym (any_first q row.value.open (opens_of (take i rows)))))
 
 dropped_again : (a b : Bool) (x y : Option (Clock × ℕ)) → x ≡ cond a None y
@@ -64,11 +65,11 @@ dropped_again false false x y e = e
 module _ (k : ℕ) (rows : List (ClientRow Caller)) (i : ℕ) (before now : ℕ → Option (Clock × ℕ))
     (so_far : (p : ℕ) → now p ≡ dropped k (opens_of (take i rows)) (before p) p) where
   -- one more row
-  more : (p : ℕ) → cond (passes (went k p) (open_in (nth_value rows i))) None (now p)
+  more : (p : ℕ) → cond (is_some_and (went k p) (open_in (nth_value rows i))) None (now p)
       ≡ dropped k (opens_of (take (i + 1) rows)) (before p) p
   more p =
       dropped_again (list_any (went k p) (opens_of (take i rows)))
-      (passes (went k p) (open_in (nth_value rows i))) (now p) (before p) (so_far p)
+      (is_some_and (went k p) (open_in (nth_value rows i))) (now p) (before p) (so_far p)
       ∙ ap (λ b. cond b None (before p)) (sym (any-more (went k p) rows i))
 
   -- a row whose call was moved
@@ -78,19 +79,19 @@ module _ (k : ℕ) (rows : List (ClientRow Caller)) (i : ℕ) (before now : ℕ 
   row-moved o row moved next does p =
       does p
       ∙ (ap (λ b. cond (b && (o.call.place == p)) None (now p)) (sym moved)
-      ∙ (ap (λ x. cond (passes (went k p) x) None (now p)) (sym row) ∙ more p))
+      ∙ (ap (λ x. cond (is_some_and (went k p) x) None (now p)) (sym row) ∙ more p))
 
   -- a row whose call wasn't
   pub row-kept : (o : Open) → open_in (nth_value rows i) ≡ Some o → was_moved_at k o ≡ false
       → (p : ℕ) → now p ≡ dropped k (opens_of (take (i + 1) rows)) (before p) p
   row-kept o row moved p =
       ap (λ b. cond (b && (o.call.place == p)) None (now p)) (sym moved)
-      ∙ (ap (λ x. cond (passes (went k p) x) None (now p)) (sym row) ∙ more p)
+      ∙ (ap (λ x. cond (is_some_and (went k p) x) None (now p)) (sym row) ∙ more p)
 
   -- a row with no call
   pub row-empty : open_in (nth_value rows i) ≡ None
       → (p : ℕ) → now p ≡ dropped k (opens_of (take (i + 1) rows)) (before p) p
-  row-empty row p = ap (λ x. cond (passes (went k p) x) None (now p)) (sym row) ∙ more p
+  row-empty row p = ap (λ x. cond (is_some_and (went k p) x) None (now p)) (sym row) ∙ more p
 
 -- at the end all rows were seen
 pub rows-all : (k : ℕ) (rows : List (ClientRow Caller)) (n : ℕ) → length rows ≤ n

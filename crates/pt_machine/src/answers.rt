@@ -3,22 +3,22 @@
 ghost use Rattle.std.specs.Prelude.{None, ◌+◌, ◌-◌, ◌^◌, ◌<◌, ◌≡◌, ◌≤◌, drop, length, map};
 ghost use Rattle.std.specs.Prelude.{option_map, slice_get};
 ghost use Rattle.pt_model.specs.Histories.{outer};
-ghost use Rattle.pt_model.specs.Answers.{outcome as said, replies_behind};
-ghost use Rattle.pt_state.specs.Adds.{past};
-ghost use Rattle.pt_model.specs.StartRows.{reads_of};
-ghost use Rattle.pt_state.specs.Forcing.{told_to};
+ghost use Rattle.pt_model.specs.Answers.{outcome, replies_since};
+ghost use Rattle.pt_state.specs.Adds.{history_of};
+ghost use Rattle.pt_model.specs.StartRows.{start_of_rows};
+ghost use Rattle.pt_state.specs.Forcing.{reply_if_closed};
 ghost use Rattle.pt_state.specs.Reads.{AreTables};
-ghost use Rattle.pt_model.specs.Queries.{answer_of as answer_in, answers_behind as answers_in};
-ghost use Rattle.pt_records.specs.Logs.{logged};
+ghost use Rattle.pt_model.specs.Queries.{answer_of, answers_since};
+ghost use Rattle.pt_records.specs.Logs.{log_entry};
 
-use crate::body::Body;
+use crate::machine::Machine;
 use pt_model::Entry;
 use pt_records::{Answered, LoggedAnswers};
 use pt_types::{ClientId, Outcome};
 use pt_waitq::WaitList;
 use std::alloc::Allocator;
 
-impl<Q: WaitList, A: Allocator + Copy> Body<Q, A> {
+impl<Q: WaitList, A: Allocator + Copy> Machine<Q, A> {
     /// Returns the place of the next entry.
     pub fn len(&self) -> u64
         ensures { result ≡ self.now.stored.start.at + length self.now.stored.entries }
@@ -28,7 +28,7 @@ impl<Q: WaitList, A: Allocator + Copy> Body<Q, A> {
 
     /// Returns the number of outer entries, including those before the history was sealed.
     pub fn outer(&self) -> u64
-        ensures { result ≡ outer (past self.now) }
+        ensures { result ≡ outer (history_of self.now) }
     {
         self.state.stored.outer()
     }
@@ -52,7 +52,7 @@ impl<Q: WaitList, A: Allocator + Copy> Body<Q, A> {
     /// Returns the answer to the call at a place, if it has one.  [XSH, the call's page]
     pub fn outcome(&self, place: u64) -> Option<Outcome>
         requires { AreTables self.now }
-        ensures { result ≡ said (past self.now) place }
+        ensures { result ≡ outcome (history_of self.now) place }
     {
         self.state.outcome(place)
     }
@@ -62,7 +62,7 @@ impl<Q: WaitList, A: Allocator + Copy> Body<Q, A> {
     #[inline(always)]
     pub fn outcome_of(&self, c: ClientId, place: u64) -> Option<Outcome>
         requires { AreTables self.now }
-        ensures { result ≡ said (past self.now) place }
+        ensures { result ≡ outcome (history_of self.now) place }
     {
         self.state.outcome_of(c, place)
     }
@@ -71,7 +71,7 @@ impl<Q: WaitList, A: Allocator + Copy> Body<Q, A> {
     /// one.
     pub fn answer_of(&self, c: ClientId) -> Option<(u64, Outcome)>
         requires { AreTables self.now }
-        ensures { told_to c result ≡ answer_in (past self.now) c }
+        ensures { reply_if_closed c result ≡ answer_of (history_of self.now) c }
     {
         self.state.answer_of(c)
     }
@@ -79,8 +79,8 @@ impl<Q: WaitList, A: Allocator + Copy> Body<Q, A> {
     /// Returns the answers that the entries from a place on gave, in order.
     pub fn answers_since(&self, place: u64) -> LoggedAnswers<'_>
         requires { AreTables self.now }
-        ensures { map (λ a. (logged a).1) result ≡ answers_in
-            (reads_of self.now.stored.start) place self.now.stored.entries }
+        ensures { map (λ a. (log_entry a).1) result ≡ answers_since
+            (start_of_rows self.now.stored.start) place self.now.stored.entries }
     {
         self.state.answers_since(place)
     }
@@ -91,10 +91,10 @@ impl<Q: WaitList, A: Allocator + Copy> Body<Q, A> {
     pub fn answers_before(&self, place: u64) -> usize
         requires { AreTables self.now }
         ensures rest { drop result
-            (replies_behind (reads_of self.now.stored.start) self.now.stored.entries)
-            ≡ answers_in (reads_of self.now.stored.start) place self.now.stored.entries }
+            (replies_since (start_of_rows self.now.stored.start) self.now.stored.entries)
+            ≡ answers_since (start_of_rows self.now.stored.start) place self.now.stored.entries }
         ensures within { result ≤ length
-            (replies_behind (reads_of self.now.stored.start) self.now.stored.entries) }
+            (replies_since (start_of_rows self.now.stored.start) self.now.stored.entries) }
     {
         self.state.answers_before(place)
     }
@@ -103,10 +103,10 @@ impl<Q: WaitList, A: Allocator + Copy> Body<Q, A> {
     #[inline(always)]
     pub fn answer_at(&self, index: usize) -> Option<Answered>
         requires { AreTables self.now }
-        ensures value { option_map (λ a. (logged a).1) result ≡ slice_get
-            (replies_behind (reads_of self.now.stored.start) self.now.stored.entries) index }
-        ensures few { length (replies_behind
-            (reads_of self.now.stored.start) self.now.stored.entries) < 2 ^ 64 }
+        ensures value { option_map (λ a. (log_entry a).1) result ≡ slice_get
+            (replies_since (start_of_rows self.now.stored.start) self.now.stored.entries) index }
+        ensures within { length (replies_since
+            (start_of_rows self.now.stored.start) self.now.stored.entries) < 2 ^ 64 }
     {
         self.state.answer_at(index)
     }
@@ -114,8 +114,8 @@ impl<Q: WaitList, A: Allocator + Copy> Body<Q, A> {
     /// Returns the answer at an index among those that the entries from a place on gave, in order.
     pub fn answer_since(&self, place: u64, index: usize) -> Option<Answered>
         requires { AreTables self.now }
-        ensures { option_map (λ a. (logged a).1) result ≡ slice_get (answers_in
-            (reads_of self.now.stored.start) place self.now.stored.entries) index }
+        ensures { option_map (λ a. (log_entry a).1) result ≡ slice_get (answers_since
+            (start_of_rows self.now.stored.start) place self.now.stored.entries) index }
     {
         self.state.answer_since(place, index)
     }

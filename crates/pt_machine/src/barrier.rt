@@ -2,9 +2,9 @@
 
 ghost use Rattle.std.specs.Prelude.{None, Some, ◌≡◌, false, length, option_map, true};
 ghost use Rattle.pt_model.specs.Searches.{In};
-ghost use Rattle.pt_model.specs.WaitingCall.{is_arrival as is_arrival_role};
+ghost use Rattle.pt_model.specs.WaitingCall.{is_barrier_wait};
 ghost use Rattle.pt_model.specs.Forced.{forced};
-ghost use Rattle.pt_state.specs.Adds.{Adds, IsReadyFor, past};
+ghost use Rattle.pt_state.specs.Adds.{Adds, HasRoomFor, history_of};
 ghost use Rattle.pt_types.specs.Operations.{class_of};
 ghost use Rattle.pt_types.specs.declared.operations.ObjectClass.TheVariants as class;
 ghost use Rattle.pt_model.specs.Objects.{kind_of};
@@ -14,14 +14,14 @@ ghost use Rattle.pt_model.specs.declared.entry.Entry.TheVariants as entry;
 ghost use Rattle.pt_model.specs.declared.waiting_call.WaitingCall.{WaitingCall};
 ghost use Rattle.pt_machine.specs.GrantedAtOnce.{AddsBoth, IsReadyAfter};
 ghost use Rattle.pt_model.specs.declared.entry.Event.TheVariants as event;
-ghost use Rattle.pt_types.specs.Operations.{Arrives, operation};
-ghost use Rattle.pt_machine.specs.Planned.{IsPlanned};
+ghost use Rattle.pt_types.specs.Operations.{BarrierWaits, operation};
+ghost use Rattle.pt_machine.specs.Plans.{IsPlanned};
 ghost use Rattle.pt_machine.specs.Pushes.{CanCall, Pushes};
 
-use crate::body::Body;
 use crate::calls::object_named;
-use crate::planning::Plan;
-use crate::queues::arriving;
+use crate::machine::Machine;
+use crate::plans::Plan;
+use crate::queues::barrier_waiter;
 use pt_state::{Request, State};
 use pt_types::{Call, ClientId, Name, ObjectId};
 use pt_waitq::WaitList;
@@ -39,21 +39,21 @@ fn arrive<Q: WaitList, A: Allocator + Copy>(
     request: &Request,
 )
     requires can { CanCall state.old (Q.seen queues.old) c call.now None request.now }
-    requires operation { operation call.now ≡ Arrives n.now }
+    requires operation { operation call.now ≡ BarrierWaits n.now }
     ensures { Pushes state.old (entry.Call c call.now None) state.new (Q.seen queues.new) }
 {
     let place = state.stored.len();
     let b = object_named(request);
-    state.push_arrival(c, call, n, request.object);
-    queues.insert(b, arriving(c, place));
+    state.push_waiting_arrival(c, call, n, request.object);
+    queues.insert(b, barrier_waiter(c, place));
 }
 
-impl<Q: WaitList, A: Allocator + Copy> Body<Q, A> {
+impl<Q: WaitList, A: Allocator + Copy> Machine<Q, A> {
     // Pushes an arrival that waits at its barrier.  [XSH pthread_barrier_wait]
-    fn push_arrival(&mut self, c: ClientId, call: &Call, n: &Name, plan: &Plan)
-        requires ready { IsReadyFor self.old (entry.Call c call.now None) }
-        requires operation { operation call.now ≡ Arrives n.now }
-        requires planned { IsPlanned (past self.old) (event.Call c call.now) plan.now }
+    fn push_waiting_arrival(&mut self, c: ClientId, call: &Call, n: &Name, plan: &Plan)
+        requires has_room { HasRoomFor self.old (entry.Call c call.now None) }
+        requires operation { operation call.now ≡ BarrierWaits n.now }
+        requires planned { IsPlanned (history_of self.old) (event.Call c call.now) plan.now }
         requires waits { plan.now.answer ≡ None }
         ensures { Adds self.old (entry.Call c call.now None) self.new }
     {
@@ -65,17 +65,17 @@ impl<Q: WaitList, A: Allocator + Copy> Body<Q, A> {
 
     /// Pushes an arrival that waits at its barrier, and the Trip of the barrier if it is full after
     /// that. Returns true if it is not full; then nothing must follow.  [XSH pthread_barrier_wait]
-    pub fn push_arrived(&mut self, c: ClientId, call: &Call, n: &Name, plan: &Plan) -> bool
-        requires ready { IsReadyFor self.old (entry.Call c call.now None) }
+    pub fn push_barrier_wait(&mut self, c: ClientId, call: &Call, n: &Name, plan: &Plan) -> bool
+        requires has_room { HasRoomFor self.old (entry.Call c call.now None) }
         requires next { IsReadyAfter self.old (entry.Call c call.now None) }
-        requires operation { operation call.now ≡ Arrives n.now }
-        requires planned { IsPlanned (past self.old) (event.Call c call.now) plan.now }
+        requires operation { operation call.now ≡ BarrierWaits n.now }
+        requires planned { IsPlanned (history_of self.old) (event.Call c call.now) plan.now }
         requires waits { plan.now.answer ≡ None }
         ensures adds { result ≡ true → Adds self.old (entry.Call c call.now None) self.new }
-        ensures rests { result ≡ true → forced (past self.new) ≡ None }
+        ensures settled { result ≡ true → forced (history_of self.new) ≡ None }
         ensures both { result ≡ false → AddsBoth self.old (entry.Call c call.now None) self.new }
     {
-        self.push_arrival(c, call, n, plan);
+        self.push_waiting_arrival(c, call, n, plan);
         match self.arrival_service(object_named(&plan.request)) {
             Some(service) => {
                 self.push_first(service);
@@ -89,10 +89,10 @@ impl<Q: WaitList, A: Allocator + Copy> Body<Q, A> {
     /// [XSH pthread_barrier_wait]
     #[inline(never)]
     pub(crate) fn push_full(&mut self, b: ObjectId)
-        requires read { AreTables self.old }
-        requires waits { (w : WaitingCall) × (In w (open_calls (past self.old))
-            × ((is_arrival_role w.role ≡ true) × (w.object ≡ b))) }
-        requires ready { IsReadyFor self.old (entry.Trip b) }
+        requires tables { AreTables self.old }
+        requires waits { (w : WaitingCall) × (In w (open_calls (history_of self.old))
+            × ((is_barrier_wait w.role ≡ true) × (w.object ≡ b))) }
+        requires has_room { HasRoomFor self.old (entry.Trip b) }
         ensures { Adds self.old (entry.Trip b) self.new }
     {
         let before = self.state.answers.len();
@@ -105,9 +105,10 @@ impl<Q: WaitList, A: Allocator + Copy> Body<Q, A> {
     /// Returns how many calls wait at the barrier.  [XSH pthread_barrier_wait]
     #[inline(always)]
     pub(crate) fn arrivals(&self, b: ObjectId) -> usize
-        requires read { AreTables self.now }
-        requires barrier { option_map class_of (kind_of (past self.now) b) ≡ Some class.Barrier }
-        ensures { result ≡ length (at_barrier b (open_calls (past self.now))) }
+        requires tables { AreTables self.now }
+        requires barrier { option_map class_of (kind_of (history_of self.now) b)
+            ≡ Some class.Barrier }
+        ensures { result ≡ length (at_barrier b (open_calls (history_of self.now))) }
     {
         self.queues.len(b)
     }

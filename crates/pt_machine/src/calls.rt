@@ -1,23 +1,23 @@
 //! Calls: their verdicts, and the push of their entries, answered or waiting.
 
 ghost use Rattle.pt_state.specs.Requests.{IsRequest};
-ghost use Rattle.pt_types.specs.Shown.{shown_operation};
+ghost use Rattle.pt_types.specs.OperationViews.{operation_view};
 ghost use Rattle.std.specs.Prelude.{None, Some, ◌≡◌, false, unwrap_or};
-ghost use Rattle.pt_types.specs.Operations.{Acquires, Arrives, Awaits, Broadcasts, Ends, Makes};
+ghost use Rattle.pt_types.specs.Operations.{Acquires, BarrierWaits, CondWaits, Broadcasts, Ends, Inits};
 ghost use Rattle.pt_types.specs.Operations.{Restores, Rwunlocks, Signals, Unlocks, operation};
 ghost use Rattle.pt_types.specs.declared.operations.LockKind.TheVariants.{ReadLock, WriteLock};
 ghost use Rattle.pt_model.specs.declared.entry.Entry.TheVariants as entry;
-ghost use Rattle.pt_state.specs.Adds.{past};
+ghost use Rattle.pt_state.specs.Adds.{history_of};
 ghost use Rattle.pt_state.specs.Outer.{makes_object};
-ghost use Rattle.pt_types.specs.declared.outcome.Outcome.TheVariants as told;
-ghost use Rattle.pt_model.specs.Verdicts.{operation_verdict as said_of};
+ghost use Rattle.pt_types.specs.declared.outcome.Outcome.TheVariants as outcomes;
+ghost use Rattle.pt_model.specs.Verdicts.{operation_verdict};
 ghost use Rattle.pt_state.specs.Reads.{AreTables};
 ghost use Rattle.pt_machine.specs.Pushes.{CanCall, Pushes, PushesOnOk};
 
-use crate::body::Body;
 use crate::cond::{push_broadcast, push_signal};
-use crate::objects::{push_ended, push_ended_object, push_made, push_new_object};
-use pt_state::{Request, State, known_verdict};
+use crate::machine::Machine;
+use crate::objects::{push_created, push_destroyed, push_ended_object, push_new_object};
+use pt_state::{Request, State, verdict_if_object};
 use pt_types::operations::{LockKind, Operation, operation_of};
 use pt_types::{Call, ClientId, How, Name, ObjectId, Outcome, Refusal, Verdict};
 use pt_waitq::WaitList;
@@ -42,15 +42,15 @@ fn push_changed<Q: WaitList, A: Allocator + Copy>(
     call: &Call,
     request: &Request,
 )
-    requires can { CanCall state.old (Q.seen queues.old) c call.now (Some told.Done)
+    requires can { CanCall state.old (Q.seen queues.old) c call.now (Some outcomes.Done)
         request.now }
     requires other { makes_object (operation call.now) ≡ false }
-    ensures { Pushes state.old (entry.Call c call.now (Some told.Done)) state.new
+    ensures { Pushes state.old (entry.Call c call.now (Some outcomes.Done)) state.new
         (Q.seen queues.new) }
 {
     let object = request.object;
     match &operation_of(call) {
-        Operation::Ends(n, class) => push_ended(state, queues, c, call, n, *class, object),
+        Operation::Ends(n, class) => push_destroyed(state, queues, c, call, n, *class, object),
         Operation::Acquires(n, kind, how) => state.push_locked(c, call, n, *kind, how, object),
         Operation::Unlocks(n) => state.push_unlock(c, call, n, object),
         Operation::Restores(n) => state.push_restored(c, call, n, object),
@@ -59,7 +59,7 @@ fn push_changed<Q: WaitList, A: Allocator + Copy>(
         Operation::Broadcasts(n) => push_broadcast(state, queues, c, call, n, object),
         // None of these comes here: waits and arrivals are never answered 0 at once, and the others
         // make an object.
-        Operation::Awaits(..) | Operation::Arrives(_) | Operation::Makes(..) => {
+        Operation::CondWaits(..) | Operation::BarrierWaits(_) | Operation::Inits(..) => {
             state.finish_long(c, call, Outcome::Done)
         }
     }
@@ -74,12 +74,12 @@ pub(crate) fn push_any_done<Q: WaitList, A: Allocator + Copy>(
     call: &Call,
     request: &Request,
 ) -> Result<(), Refusal>
-    requires { CanCall state.old (Q.seen queues.old) c call.now (Some told.Done) request.now }
-    ensures { PushesOnOk state.old (entry.Call c call.now (Some told.Done))
+    requires { CanCall state.old (Q.seen queues.old) c call.now (Some outcomes.Done) request.now }
+    ensures { PushesOnOk state.old (entry.Call c call.now (Some outcomes.Done))
         (makes_object (operation call.now)) result state.new (Q.seen queues.new) }
 {
     match &operation_of(call) {
-        Operation::Makes(n, kind) => push_made(state, queues, c, call, n, *kind),
+        Operation::Inits(n, kind) => push_created(state, queues, c, call, n, *kind),
         _ => {
             push_changed(state, queues, c, call, request);
             Ok(())
@@ -97,8 +97,8 @@ fn push_done<Q: WaitList, A: Allocator + Copy>(
     call: &Call,
     request: &Request,
 ) -> Result<(), Refusal>
-    requires { CanCall state.old (Q.seen queues.old) c call.now (Some told.Done) request.now }
-    ensures { PushesOnOk state.old (entry.Call c call.now (Some told.Done))
+    requires { CanCall state.old (Q.seen queues.old) c call.now (Some outcomes.Done) request.now }
+    ensures { PushesOnOk state.old (entry.Call c call.now (Some outcomes.Done))
         (makes_object (operation call.now)) result state.new (Q.seen queues.new) }
 {
     match call {
@@ -147,25 +147,26 @@ pub(crate) fn push_answered<Q: WaitList, A: Allocator + Copy>(
     match answer {
         Outcome::Done => push_done(state, queues, c, call, request),
         outcome => {
-            state.push_told(c, call, outcome);
+            state.push_answered_call(c, call, outcome);
             Ok(())
         }
     }
 }
 
-impl<Q: WaitList, A: Allocator + Copy> Body<Q, A> {
+impl<Q: WaitList, A: Allocator + Copy> Machine<Q, A> {
     /// Returns the answer that a client's call gets at once, or that it waits.
     /// [XSH, the call's page]
     #[inline(always)]
     pub fn verdict(&self, c: ClientId, operation: &Operation<'_>, request: &Request) -> Verdict
-        requires read { AreTables self.now }
-        requires asks { IsRequest (past self.now) (shown_operation operation.now) request.now }
-        ensures { result ≡ said_of (past self.now) c (shown_operation operation.now) }
+        requires tables { AreTables self.now }
+        requires request { IsRequest (history_of self.now)
+            (operation_view operation.now) request.now }
+        ensures { result ≡ operation_verdict (history_of self.now) c (operation_view operation.now) }
     {
         let object = request.object;
         match operation {
-            Operation::Makes(n, kind) => self.state.makes_verdict(n, *kind),
-            Operation::Ends(n, class) => self.ends_verdict(n, *class, object),
+            Operation::Inits(n, kind) => self.state.makes_verdict(n, *kind),
+            Operation::Ends(n, class) => self.destroys_verdict(n, *class, object),
             Operation::Acquires(n, LockKind::MutexLock, how) => {
                 self.state.mutex_verdict(c, n, how, object)
             }
@@ -185,10 +186,12 @@ impl<Q: WaitList, A: Allocator + Copy> Body<Q, A> {
             Operation::Unlocks(n) => self.state.unlocks_verdict(c, n, object),
             Operation::Restores(n) => self.state.restores_verdict(c, n, object),
             Operation::Rwunlocks(n) => self.state.rwunlocks_verdict(c, n, object),
-            Operation::Awaits(n, m, deadline) => self.awaits_verdict(c, n, m, *deadline, request),
-            Operation::Signals(_) => known_verdict(object, Verdict::Reply(Outcome::Done)),
-            Operation::Broadcasts(_) => known_verdict(object, Verdict::Reply(Outcome::Done)),
-            Operation::Arrives(_) => known_verdict(object, Verdict::Stands),
+            Operation::CondWaits(n, m, deadline) => self.awaits_verdict(
+                c, n, m, *deadline, request,
+            ),
+            Operation::Signals(_) => verdict_if_object(object, Verdict::Reply(Outcome::Done)),
+            Operation::Broadcasts(_) => verdict_if_object(object, Verdict::Reply(Outcome::Done)),
+            Operation::BarrierWaits(_) => verdict_if_object(object, Verdict::Stands),
         }
     }
 }

@@ -4,10 +4,10 @@ ghost use Rattle.std.specs.Prelude.{◌≡◌, ◌≤◌, true};
 ghost use Rattle.pt_model.specs.Histories.{place};
 ghost use Rattle.pt_model.specs.Queries.{caller};
 ghost use Rattle.pt_model.specs.declared.entry.Entry.TheVariants as entry;
-ghost use Rattle.pt_state.specs.Adds.{past};
+ghost use Rattle.pt_state.specs.Adds.{history_of};
 ghost use Rattle.pt_machine.specs.Pushes.{CanPush, Pushes, PushesOnOk};
 
-use crate::body::Body;
+use crate::machine::Machine;
 use pt_state::State;
 use pt_types::{ClientId, Priority, Refusal};
 use pt_waitq::WaitList;
@@ -21,8 +21,8 @@ pub(crate) fn push_join<Q: WaitList, A: Allocator + Copy>(
     priority: Priority,
 ) -> Result<(), Refusal>
     requires { CanPush state.old (Q.seen queues.old)
-        (entry.Join (place (past state.old)) priority) }
-    ensures { PushesOnOk state.old (entry.Join (place (past state.old)) priority) true result
+        (entry.Join (place (history_of state.old)) priority) }
+    ensures { PushesOnOk state.old (entry.Join (place (history_of state.old)) priority) true result
         state.new (Q.seen queues.new) }
 {
     let c = ClientId(state.stored.len());
@@ -52,11 +52,11 @@ pub(crate) fn push_death<Q: WaitList, A: Allocator + Copy>(
     state.push_death(c);
 }
 
-impl<Q: WaitList, A: Allocator + Copy> Body<Q, A> {
+impl<Q: WaitList, A: Allocator + Copy> Machine<Q, A> {
     // Returns the client of the call at a place, if a call's entry is stored there.
     fn caller_since(&self, place: u64) -> Option<ClientId>
         requires { self.now.stored.start.at ≤ place }
-        ensures { result ≡ caller (past self.now) place }
+        ensures { result ≡ caller (history_of self.now) place }
     {
         self.state.stored.caller(place)
     }
@@ -64,7 +64,7 @@ impl<Q: WaitList, A: Allocator + Copy> Body<Q, A> {
     /// Returns the client of the call at a place, if there is one. The client of an open call of
     /// the Start is found in the Start's rows.
     pub(crate) fn caller_at(&self, place: u64) -> Option<ClientId>
-        ensures { result ≡ caller (past self.now) place }
+        ensures { result ≡ caller (history_of self.now) place }
     {
         let start = self.state.stored.start();
         if start.at <= place {

@@ -2,42 +2,42 @@
 
 ghost use Rattle.std.specs.Prelude.{IfErr, IfOk, IsOk, None, OnErr, OnOk, Some, ◌&&◌, false, ◌≡◌};
 ghost use Rattle.std.specs.Prelude.{◌<◌, ◌≤◌, if◌then◌else◌, option_map, true, unwrap_or};
-ghost use Rattle.pt_types.specs.Limits.{most_priority};
+ghost use Rattle.pt_types.specs.Limits.{max_priority};
 ghost use Rattle.pt_types.specs.MutexTable.{is_acquired as is_acquired_it};
-ghost use Rattle.pt_types.specs.declared.outcome.Outcome.TheVariants as told;
+ghost use Rattle.pt_types.specs.declared.outcome.Outcome.TheVariants as outcomes;
 ghost use Rattle.pt_model.specs.Answers.{outcome};
-ghost use Rattle.pt_model.specs.Clients.{client};
+ghost use Rattle.pt_model.specs.Clients.{client_priority};
 ghost use Rattle.pt_model.specs.Forced.{forced};
 ghost use Rattle.pt_model.specs.Histories.{place};
 ghost use Rattle.std.specs.Bool.{OnTrue};
 ghost use Rattle.pt_model.specs.declared.entry.Event.TheVariants as event_is;
 ghost use Rattle.pt_model.specs.declared.entry.Entry.TheVariants as entry_is;
-ghost use Rattle.pt_state.specs.Adds.{IsReadyFor, Stays, past};
+ghost use Rattle.pt_state.specs.Adds.{HasRoomFor, AddsNothing, history_of};
 ghost use Rattle.pt_state.specs.Reads.{AreTables};
 ghost use Rattle.pt_model.specs.Objects.{kind_of};
 ghost use Rattle.pt_types.specs.Operations.{class_needed, class_of, deadline_of, operation};
 ghost use Rattle.pt_types.specs.Operations.{operation as operation_meant};
-ghost use Rattle.pt_types.specs.Shown.{shown_operation};
-ghost use Rattle.pt_state.specs.Outer.{asks_to_read as asks_to_read_of};
+ghost use Rattle.pt_types.specs.OperationViews.{operation_view};
+ghost use Rattle.pt_state.specs.Outer.{is_read_call};
 ghost use Rattle.pt_state.specs.Requests.{IsRequest, object_meant};
 ghost use Rattle.pt_machine.specs.GrantedAtOnce.{AddsBoth, AddsGranted, AnswersOne};
 ghost use Rattle.pt_machine.specs.GrantedAtOnce.{IsAhead, IsFree, IsFreeLock, IsGrantedAtOnce};
 ghost use Rattle.pt_machine.specs.GrantedAtOnce.{IsReadyAfter};
-ghost use Rattle.pt_machine.specs.GrantedAtOnce.{asks_for_mutex as asks_for_mutex_of};
-ghost use Rattle.pt_machine.specs.AtRest.{IsUnopposed, NoneWaits};
+ghost use Rattle.pt_machine.specs.GrantedAtOnce.{is_mutex_call};
+ghost use Rattle.pt_machine.specs.SettledCalls.{IsUnopposed, NoneWaits};
 ghost use Rattle.pt_machine.specs.Memory.{needs_memory};
-ghost use Rattle.pt_machine.specs.Planned.{HasOperation, HasRequest, IsAtOnce, IsPlanned};
-ghost use Rattle.pt_machine.specs.Planned.{KnowsUnopposed, entry_with};
-ghost use Rattle.pt_machine.specs.Timed.{good_of};
+ghost use Rattle.pt_machine.specs.Plans.{HasOperation, HasRequest, IsAtOnce, IsPlanned};
+ghost use Rattle.pt_machine.specs.Plans.{KnowsUnopposed, entry_with};
+ghost use Rattle.pt_machine.specs.CallDeadlines.{valid_deadline};
 ghost use Rattle.pt_model.specs.Room.{entry_for};
 
-use crate::body::Body;
-use crate::planning::Plan;
+use crate::machine::Machine;
+use crate::plans::Plan;
 use pt_model::Event;
 use pt_records::Object;
-use pt_records::mutex::may_lock;
+use pt_records::mutex::can_grant_mutex;
 use pt_rwlock::Holders;
-use pt_state::{Had, Request, State};
+use pt_state::{Acquisition, Request, State};
 use pt_types::operations::{LockKind, Operation};
 use pt_types::views::is_acquired;
 use pt_types::{Call, ClientId, How, ObjectId, Outcome, Priority, Refusal};
@@ -59,7 +59,7 @@ fn is_free_lock<A: Allocator + Copy>(kind: LockKind, lock: &Holders<A>) -> bool
 
 // Returns whether a call for a lock has no deadline that is a time.  [XSH pthread_mutex_timedlock]
 fn is_untimed(how: &How) -> bool
-    ensures untimed { OnTrue result (good_of (deadline_of how.now) ≡ None) }
+    ensures untimed { OnTrue result (valid_deadline (deadline_of how.now) ≡ None) }
     ensures plain { how.now ≡ How.Plain → result ≡ true }
 {
     match how {
@@ -73,13 +73,13 @@ fn is_untimed(how: &How) -> bool
 #[inline(always)]
 fn is_free<A: Allocator + Copy>(state: &State<A>, kind: LockKind, o: ObjectId) -> bool
     requires { AreTables state.now }
-    ensures free { OnTrue result (IsFree (past state.now) kind o) }
-    ensures all { let h = past state.now in
+    ensures free { OnTrue result (IsFree (history_of state.now) kind o) }
+    ensures all { let h = history_of state.now in
         option_map class_of (kind_of h o) ≡ Some (class_needed kind)
         → IsFree h kind o → result ≡ true }
 {
     match state.objects.at(o.0) {
-        Some(Object::Mutex(mutex)) => matches!(kind, LockKind::MutexLock) && may_lock(mutex),
+        Some(Object::Mutex(mutex)) => matches!(kind, LockKind::MutexLock) && can_grant_mutex(mutex),
         Some(Object::Rwlock(lock)) => is_free_lock(kind, lock),
         _ => false,
     }
@@ -96,10 +96,10 @@ struct Granted {
 // Returns how many entries are no longer reserved after the Grant of a call for a mutex. One stays
 // reserved for a Yield if the mutex is robust and was acquired.
 // [XSH pthread_mutex_lock, EOWNERDEAD]
-fn used_by_had(had: Had) -> u64
-    ensures { result ≡ if had.robust && is_acquired_it had.outcome then 2 else 3 }
+fn unreserved_by_lock(acquisition: Acquisition) -> u64
+    ensures { result ≡ if acquisition.robust && is_acquired_it acquisition.outcome then 2 else 3 }
 {
-    if had.robust && is_acquired(had.outcome) {
+    if acquisition.robust && is_acquired(acquisition.outcome) {
         2
     } else {
         3
@@ -109,29 +109,29 @@ fn used_by_had(had: Had) -> u64
 // Pushes a call for a mutex that is granted as it comes, together with its Grant.
 // [XSH pthread_mutex_lock]
 #[inline(always)]
-fn push_had<A: Allocator + Copy>(
+fn push_lock_and_grant<A: Allocator + Copy>(
     state: &mut State<A>,
     c: ClientId,
     call: &Call,
     m: ObjectId,
 ) -> Granted
-    requires ready { IsReadyFor state.old (entry_is.Call c call.now None) }
+    requires has_room { HasRoomFor state.old (entry_is.Call c call.now None) }
     requires next { IsReadyAfter state.old (entry_is.Call c call.now None) }
-    requires granted { IsGrantedAtOnce (past state.old) c call.now }
-    requires mutex { asks_for_mutex_of (operation call.now) ≡ true }
-    requires object { object_meant (past state.old) (operation call.now) ≡ Some m }
+    requires granted { IsGrantedAtOnce (history_of state.old) c call.now }
+    requires mutex { is_mutex_call (operation call.now) ≡ true }
+    requires object { object_meant (history_of state.old) (operation call.now) ≡ Some m }
     ensures { AddsGranted state.old c call.now result.used result.outcome state.new }
 {
-    let had = state.push_had(c, call, m);
+    let acquisition = state.push_lock_and_grant(c, call, m);
     Granted {
-        used: used_by_had(had),
-        outcome: had.outcome,
+        used: unreserved_by_lock(acquisition),
+        outcome: acquisition.outcome,
     }
 }
 
 // Returns whether a call is for a read lock.  [XSH pthread_rwlock_rdlock]
-fn asks_to_read(call: &Call) -> bool
-    ensures { result ≡ asks_to_read_of (operation call.now) }
+fn is_read_call(call: &Call) -> bool
+    ensures { result ≡ is_read_call (operation call.now) }
 {
     matches!(
         call,
@@ -143,33 +143,33 @@ fn asks_to_read(call: &Call) -> bool
 // if there is no memory for the client's row in the lock; then nothing is pushed.
 // [XSH pthread_rwlock_rdlock, pthread_rwlock_wrlock]
 #[inline(never)]
-fn push_lock_had<A: Allocator + Copy>(
+fn push_rwlock_and_grant<A: Allocator + Copy>(
     state: &mut State<A>,
     c: ClientId,
     call: &Call,
     r: ObjectId,
 ) -> Result<(), Refusal>
-    requires ready { IsReadyFor state.old (entry_is.Call c call.now None) }
+    requires has_room { HasRoomFor state.old (entry_is.Call c call.now None) }
     requires next { IsReadyAfter state.old (entry_is.Call c call.now None) }
-    requires granted { IsGrantedAtOnce (past state.old) c call.now }
-    requires lock { asks_for_mutex_of (operation call.now) ≡ false }
-    requires object { object_meant (past state.old) (operation call.now) ≡ Some r }
-    ensures ok { OnOk result (AddsGranted state.old c call.now 3 told.Done state.new) }
-    ensures err { OnErr result (Stays state.old state.new) }
-    ensures reason { IfErr result (λ refusal. refusal ≡ Refusal.Enomem) }
-    ensures enough { asks_to_read_of (operation call.now) ≡ false → IsOk result }
+    requires granted { IsGrantedAtOnce (history_of state.old) c call.now }
+    requires lock { is_mutex_call (operation call.now) ≡ false }
+    requires object { object_meant (history_of state.old) (operation call.now) ≡ Some r }
+    ensures ok { OnOk result (AddsGranted state.old c call.now 3 outcomes.Done state.new) }
+    ensures unchanged { OnErr result (AddsNothing state.old state.new) }
+    ensures err { IfErr result (λ refusal. refusal ≡ Refusal.Enomem) }
+    ensures succeeds_if { is_read_call (operation call.now) ≡ false → IsOk result }
 {
-    if asks_to_read(call) {
-        state.push_had_read(c, call, r)?;
+    if is_read_call(call) {
+        state.push_read_and_grant(c, call, r)?;
         return Ok(());
     }
-    state.push_had_write(c, call, r);
+    state.push_write_and_grant(c, call, r);
     Ok(())
 }
 
 // Returns whether a call is for a mutex.  [XSH pthread_mutex_lock]
-fn asks_for_mutex(call: &Call) -> bool
-    ensures { result ≡ asks_for_mutex_of (operation call.now) }
+fn is_mutex_call(call: &Call) -> bool
+    ensures { result ≡ is_mutex_call (operation call.now) }
 {
     matches!(
         call,
@@ -186,36 +186,36 @@ fn push_both<A: Allocator + Copy>(
     call: &Call,
     request: &Request,
 ) -> Result<Granted, Refusal>
-    requires ready { IsReadyFor state.old (entry_is.Call c call.now None) }
+    requires has_room { HasRoomFor state.old (entry_is.Call c call.now None) }
     requires next { IsReadyAfter state.old (entry_is.Call c call.now None) }
-    requires granted { IsGrantedAtOnce (past state.old) c call.now }
-    requires asks { IsRequest (past state.old) (operation call.now) request.now }
+    requires granted { IsGrantedAtOnce (history_of state.old) c call.now }
+    requires request { IsRequest (history_of state.old) (operation call.now) request.now }
     ensures ok { IfOk result (λ granted.
         AddsGranted state.old c call.now granted.used granted.outcome state.new) }
-    ensures err { OnErr result (Stays state.old state.new) }
-    ensures reason { IfErr result (λ refusal. refusal ≡ Refusal.Enomem) }
-    ensures enough { asks_to_read_of (operation call.now) ≡ false → IsOk result }
+    ensures unchanged { OnErr result (AddsNothing state.old state.new) }
+    ensures err { IfErr result (λ refusal. refusal ≡ Refusal.Enomem) }
+    ensures succeeds_if { is_read_call (operation call.now) ≡ false → IsOk result }
 {
     let o = request.object.unwrap();
-    if asks_for_mutex(call) {
-        return Ok(push_had(state, c, call, o));
+    if is_mutex_call(call) {
+        return Ok(push_lock_and_grant(state, c, call, o));
     }
-    push_lock_had(state, c, call, o)?;
+    push_rwlock_and_grant(state, c, call, o)?;
     Ok(Granted {
         used: 3,
         outcome: Outcome::Done,
     })
 }
 
-impl<Q: WaitList, A: Allocator + Copy> Body<Q, A> {
+impl<Q: WaitList, A: Allocator + Copy> Machine<Q, A> {
     // Returns whether a client lives and has a higher priority than this. It is not inlined, since
     // it is seldom called.
     #[cold]
     #[inline(never)]
     fn is_above(&self, c: ClientId, prio: Priority) -> bool
         requires { AreTables self.now }
-        ensures { let own = unwrap_or (client (past self.now) c) 0 in
-            OnTrue result ((prio < own) × (own ≤ most_priority)) }
+        ensures { let own = unwrap_or (client_priority (history_of self.now) c) 0 in
+            OnTrue result ((prio < own) × (own ≤ max_priority)) }
     {
         match self.state.priority(c) {
             Some(own) => prio.level() < own.level(),
@@ -228,9 +228,9 @@ impl<Q: WaitList, A: Allocator + Copy> Body<Q, A> {
     #[inline(always)]
     fn is_ahead(&self, c: ClientId, o: ObjectId) -> bool
         requires { AreTables self.now }
-        ensures ahead { let h = past self.now in
-            OnTrue result (IsAhead h (unwrap_or (client h c) 0) o) }
-        ensures alone { NoneWaits (past self.now) o → result ≡ true }
+        ensures ahead { let h = history_of self.now in
+            OnTrue result (IsAhead h (unwrap_or (client_priority h c) 0) o) }
+        ensures answers_only_caller { NoneWaits (history_of self.now) o → result ≡ true }
     {
         match self.queues.first(o) {
             Some(first) => self.is_above(c, first.prio),
@@ -250,13 +250,13 @@ impl<Q: WaitList, A: Allocator + Copy> Body<Q, A> {
         answer: Option<Outcome>,
         request: &Request,
     ) -> bool
-        requires read { AreTables self.now }
-        requires does { shown_operation operation.now ≡ operation_meant call.now }
-        requires enters { let h = past self.now in
+        requires tables { AreTables self.now }
+        requires operation { operation_view operation.now ≡ operation_meant call.now }
+        requires enters { let h = history_of self.now in
             entry_is.Call c call.now answer ≡ entry_for h (event_is.Call c call.now) }
-        requires asks { IsRequest (past self.now) (operation_meant call.now) request.now }
-        ensures granted { OnTrue result (IsGrantedAtOnce (past self.now) c call.now) }
-        ensures unopposed { IsUnopposed (past self.now) c call.now → result ≡ true }
+        requires request { IsRequest (history_of self.now) (operation_meant call.now) request.now }
+        ensures granted { OnTrue result (IsGrantedAtOnce (history_of self.now) c call.now) }
+        ensures unopposed { IsUnopposed (history_of self.now) c call.now → result ≡ true }
     {
         match (operation, request.object) {
             (Operation::Acquires(_, kind, how), Some(o)) => {
@@ -281,13 +281,13 @@ impl<Q: WaitList, A: Allocator + Copy> Body<Q, A> {
         answer: Option<Outcome>,
         request: &Request,
     ) -> bool
-        requires read { AreTables self.now }
-        requires does { HasOperation event.now operation.now }
-        requires enters { let h = past self.now in
+        requires tables { AreTables self.now }
+        requires operation { HasOperation event.now operation.now }
+        requires enters { let h = history_of self.now in
             entry_with h event.now answer ≡ entry_for h event.now }
-        requires asks { HasRequest (past self.now) event.now request.now }
-        ensures granted { IsAtOnce (past self.now) event.now result }
-        ensures unopposed { KnowsUnopposed (past self.now) event.now result }
+        requires request { HasRequest (history_of self.now) event.now request.now }
+        ensures granted { IsAtOnce (history_of self.now) event.now result }
+        ensures unopposed { KnowsUnopposed (history_of self.now) event.now result }
     {
         match event {
             Event::Call(c, call) => {
@@ -309,20 +309,20 @@ impl<Q: WaitList, A: Allocator + Copy> Body<Q, A> {
         call: &Call,
         plan: &Plan,
     ) -> Result<Outcome, Refusal>
-        requires ready { IsReadyFor self.old (entry_is.Call c call.now None) }
+        requires has_room { HasRoomFor self.old (entry_is.Call c call.now None) }
         requires next { IsReadyAfter self.old (entry_is.Call c call.now None) }
-        requires granted { IsGrantedAtOnce (past self.old) c call.now }
-        requires planned { IsPlanned (past self.old) (event_is.Call c call.now) plan.now }
+        requires granted { IsGrantedAtOnce (history_of self.old) c call.now }
+        requires planned { IsPlanned (history_of self.old) (event_is.Call c call.now) plan.now }
         ensures ok { OnOk result
             (AddsBoth self.old (entry_is.Call c call.now None) self.new) }
-        ensures told { IfOk result (λ x.
-            outcome (past self.new) (place (past self.old)) ≡ Some x) }
-        ensures alone { IfOk result
-            (AnswersOne self.new.stored c (place (past self.old))) }
-        ensures rests { OnOk result (forced (past self.new) ≡ None) }
-        ensures err { OnErr result (Stays self.old self.new) }
-        ensures reason { IfErr result (λ refusal. refusal ≡ Refusal.Enomem) }
-        ensures enough { needs_memory (entry_is.Call c call.now None) ≡ false → IsOk result }
+        ensures replies { IfOk result (λ x.
+            outcome (history_of self.new) (place (history_of self.old)) ≡ Some x) }
+        ensures answers_only_caller { IfOk result
+            (AnswersOne self.new.stored c (place (history_of self.old))) }
+        ensures settled { OnOk result (forced (history_of self.new) ≡ None) }
+        ensures unchanged { OnErr result (AddsNothing self.old self.new) }
+        ensures err { IfErr result (λ refusal. refusal ≡ Refusal.Enomem) }
+        ensures succeeds_if { needs_memory (entry_is.Call c call.now None) ≡ false → IsOk result }
     {
         let granted = push_both(&mut self.state, c, call, &plan.request)?;
         self.touched = plan.touched;

@@ -1,33 +1,34 @@
 //! The open calls whose deadline has passed, and the least deadline that is set.
 
-ghost use Rattle.pt_state.specs.Adds.{past};
+ghost use Rattle.pt_state.specs.Adds.{history_of};
 ghost use Rattle.std.specs.Option.{option_copied};
 ghost use Rattle.std.specs.Prelude.{IfSome, None, ◌==◌, ◌≡◌, false, option_map};
 ghost use Rattle.pt_records.specs.Callers.{open_in, opens_of};
-ghost use Rattle.pt_types.specs.Times.{deadline_nanos, is_bad_deadline};
-ghost use Rattle.pt_state.specs.Serving.{called};
+ghost use Rattle.pt_types.specs.Times.{deadline_nanos, is_invalid_deadline};
+ghost use Rattle.pt_state.specs.Serving.{call_of_open};
 ghost use Rattle.pt_table.specs.ClientRows.{client_value};
-ghost use Rattle.pt_model.specs.Found.{keep};
+ghost use Rattle.pt_model.specs.Found.{option_filter};
 ghost use Rattle.pt_state.specs.Reads.{AreTables};
-ghost use Rattle.pt_model.specs.Queries.{least_deadline as least_deadline_in};
-ghost use Rattle.pt_machine.specs.Timed.{IsFirstLate};
+ghost use Rattle.pt_model.specs.Queries.{least_deadline};
+ghost use Rattle.pt_machine.specs.CallDeadlines.{IsFirstOverdue};
 ghost use Rattle.pt_model.specs.Searches.{In};
-ghost use Rattle.pt_model.specs.WaitingCall.{at_place};
+ghost use Rattle.pt_model.specs.WaitingCall.{call_at_place};
 ghost use Rattle.pt_model.specs.Answers.{open_calls};
 ghost use Rattle.pt_model.specs.Forced.{forced, forced_service};
 
-use crate::body::Body;
+use crate::machine::Machine;
 use pt_records::Open;
 use pt_types::{ClientId, Clock, Deadline};
 use pt_waitq::WaitList;
 use std::alloc::Allocator;
 
-impl<Q: WaitList, A: Allocator + Copy> Body<Q, A> {
+impl<Q: WaitList, A: Allocator + Copy> Machine<Q, A> {
     // Returns the client's open call, if it came at this place.
     fn open_if_at(&self, c: ClientId, place: u64) -> Option<&Open>
         requires { AreTables self.now }
         ensures { option_copied result
-            ≡ keep (λ o. o.call.place == place) (open_in (client_value self.now.clients c)) }
+            ≡ option_filter (λ o. o.call.place == place) (open_in
+            (client_value self.now.clients c)) }
     {
         match self.state.open_of(c) {
             Some(open) if open.call.place == place => Some(open),
@@ -41,9 +42,9 @@ impl<Q: WaitList, A: Allocator + Copy> Body<Q, A> {
     #[inline(never)]
     fn open_stored_at(&self, place: u64) -> Option<&Open>
         requires { AreTables self.now }
-        ensures value { option_map called (option_copied result)
-            ≡ at_place place (open_calls (past self.now)) }
-        ensures known { IfSome (option_copied result) (λ o. In o (opens_of self.now.clients)) }
+        ensures value { option_map call_of_open (option_copied result)
+            ≡ call_at_place place (open_calls (history_of self.now)) }
+        ensures has_call { IfSome (option_copied result) (λ o. In o (opens_of self.now.clients)) }
     {
         self.open_if_at(self.caller_at(place)?, place)
     }
@@ -52,9 +53,9 @@ impl<Q: WaitList, A: Allocator + Copy> Body<Q, A> {
     /// looked at first, since it takes longer to read the entry of an old call.
     pub(crate) fn open_at(&self, place: u64, c: ClientId) -> Option<&Open>
         requires { AreTables self.now }
-        ensures value { option_map called (option_copied result)
-            ≡ at_place place (open_calls (past self.now)) }
-        ensures known { IfSome (option_copied result) (λ o. In o (opens_of self.now.clients)) }
+        ensures value { option_map call_of_open (option_copied result)
+            ≡ call_at_place place (open_calls (history_of self.now)) }
+        ensures has_call { IfSome (option_copied result) (λ o. In o (opens_of self.now.clients)) }
     {
         match self.open_if_at(c, place) {
             Some(open) => Some(open),
@@ -66,10 +67,10 @@ impl<Q: WaitList, A: Allocator + Copy> Body<Q, A> {
     /// that was set with it, if there is one. Must be called only when no call is to be served.
     /// [XSH pthread_mutex_timedlock, the order is profile]
     pub(crate) fn first_due(&self) -> Option<(u64, ClientId)>
-        requires read { AreTables self.now }
-        requires unserved { forced_service (past self.now) ≡ None }
-        ensures { let h = past self.now in
-            IsFirstLate h (option_map (λ due. due.0) result) }
+        requires tables { AreTables self.now }
+        requires unserved { forced_service (history_of self.now) ≡ None }
+        ensures { let h = history_of self.now in
+            IsFirstOverdue h (option_map (λ due. due.0) result) }
     {
         let clocks = &self.state.clocks;
         self.timers.least_due(clocks.real, clocks.mono)
@@ -78,10 +79,11 @@ impl<Q: WaitList, A: Allocator + Copy> Body<Q, A> {
     /// Returns the least deadline by this clock among the open calls that were not moved, as the
     /// call gave it.  [profile]
     pub fn least_deadline(&self, clock: Clock) -> Option<Deadline>
-        requires read { AreTables self.now }
-        requires quiet { forced (past self.now) ≡ None }
-        ensures value { option_map deadline_nanos result ≡ least_deadline_in (past self.now) clock }
-        ensures time { IfSome result (λ deadline. is_bad_deadline deadline ≡ false) }
+        requires tables { AreTables self.now }
+        requires quiet { forced (history_of self.now) ≡ None }
+        ensures value { option_map deadline_nanos result
+            ≡ least_deadline (history_of self.now) clock }
+        ensures time { IfSome result (λ deadline. is_invalid_deadline deadline ≡ false) }
     {
         self.timers.least(clock)
     }

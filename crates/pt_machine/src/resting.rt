@@ -2,17 +2,17 @@
 
 ghost use Rattle.std.specs.Prelude.{◌≡◌};
 ghost use Rattle.pt_types.specs.Operations.{operation};
-ghost use Rattle.pt_machine.specs.AtRest.{rests_after as rests_after_it, rests_by as rests_by_it};
+ghost use Rattle.pt_machine.specs.SettledCalls.{is_settled_after, is_settled_by};
 
-use crate::planning::Plan;
+use crate::plans::Plan;
 use pt_model::Event;
 use pt_types::Call;
 
 // Returns whether it is known that nothing must follow a call, given whether it is granted as it
 // comes.  [XSH pthread_mutex_lock, pthread_rwlock_wrlock]
 #[inline(always)]
-fn rests_by(call: &Call, at_once: bool) -> bool
-    ensures { result ≡ rests_by_it (operation call.now) at_once }
+fn is_settled_by(call: &Call, at_once: bool) -> bool
+    ensures { result ≡ is_settled_by (operation call.now) at_once }
 {
     match call {
         Call::Lock(_) | Call::Wrlock(_) => !at_once,
@@ -28,11 +28,11 @@ fn rests_by(call: &Call, at_once: bool) -> bool
 /// Returns whether it is known from its plan that nothing must follow an event's entry.
 /// [XSH pthread_mutex_lock, pthread_rwlock_wrlock]
 #[inline(always)]
-pub fn rests_after(event: &Event, plan: &Plan) -> bool
-    ensures { result ≡ rests_after_it event.now plan.now.at_once }
+pub fn is_settled_after(event: &Event, plan: &Plan) -> bool
+    ensures { result ≡ is_settled_after event.now plan.now.at_once }
 {
     match event {
-        Event::Call(_, call) => rests_by(call, plan.at_once),
+        Event::Call(_, call) => is_settled_by(call, plan.at_once),
         _ => false,
     }
 }

@@ -1,12 +1,12 @@
 //! Calls that wait: the one way by which a call is left waiting.
 
 ghost use Rattle.std.specs.Prelude.{None, Some, ◌≡◌, true};
-ghost use Rattle.pt_model.specs.Clients.{client, is_alive};
-ghost use Rattle.pt_state.specs.Adds.{past};
+ghost use Rattle.pt_model.specs.Clients.{client_priority, is_alive};
+ghost use Rattle.pt_state.specs.Adds.{history_of};
 ghost use Rattle.pt_state.specs.Reads.{AreTables};
 ghost use Rattle.pt_machine.specs.Pushes.{CanCall, PushesOnOk};
 ghost use Rattle.pt_model.specs.declared.entry.Entry.TheVariants as entry;
-ghost use Rattle.pt_state.specs.Outer.{asks_to_read};
+ghost use Rattle.pt_state.specs.Outer.{is_read_call};
 ghost use Rattle.pt_types.specs.Operations.{operation};
 
 use crate::queues::waiter_of;
@@ -18,9 +18,9 @@ use std::alloc::Allocator;
 
 // Returns a living client's priority, as its row has it.  [XSH 2.8.4]
 fn priority_in_row<A: Allocator + Copy>(state: &State<A>, c: ClientId) -> Priority
-    requires read { AreTables state.now }
-    requires alive { is_alive (past state.now) c ≡ true }
-    ensures { client (past state.now) c ≡ Some result }
+    requires tables { AreTables state.now }
+    requires alive { is_alive (history_of state.now) c ≡ true }
+    ensures { client_priority (history_of state.now) c ≡ Some result }
 {
     state.clients.at(c.0).unwrap().priority
 }
@@ -43,7 +43,7 @@ fn push_here<Q: WaitList, A: Allocator + Copy>(
     request: &Request,
 ) -> Result<(), Refusal>
     requires { CanCall state.old (Q.seen queues.old) c call.now None request.now }
-    ensures { PushesOnOk state.old (entry.Call c call.now None) (asks_to_read (operation call.now))
+    ensures { PushesOnOk state.old (entry.Call c call.now None) (is_read_call (operation call.now))
         result state.new (Q.seen queues.new) }
 {
     let open = state.waiting(c, call, request);
@@ -68,7 +68,7 @@ fn push_any<Q: WaitList, A: Allocator + Copy>(
     request: &Request,
 ) -> Result<(), Refusal>
     requires { CanCall state.old (Q.seen queues.old) c call.now None request.now }
-    ensures { PushesOnOk state.old (entry.Call c call.now None) (asks_to_read (operation call.now))
+    ensures { PushesOnOk state.old (entry.Call c call.now None) (is_read_call (operation call.now))
         result state.new (Q.seen queues.new) }
 {
     push_here(state, queues, c, call, request)
@@ -97,7 +97,7 @@ fn push_as<const WORD: u8, Q: WaitList, A: Allocator + Copy>(
     request: &Request,
 ) -> Result<(), Refusal>
     requires { CanCall state.old (Q.seen queues.old) c call.now None request.now }
-    ensures { PushesOnOk state.old (entry.Call c call.now None) (asks_to_read (operation call.now))
+    ensures { PushesOnOk state.old (entry.Call c call.now None) (is_read_call (operation call.now))
         result state.new (Q.seen queues.new) }
 {
     if word_of(call) == WORD {
@@ -117,7 +117,7 @@ pub(crate) fn push_waiting<Q: WaitList, A: Allocator + Copy>(
     request: &Request,
 ) -> Result<(), Refusal>
     requires { CanCall state.old (Q.seen queues.old) c call.now None request.now }
-    ensures { PushesOnOk state.old (entry.Call c call.now None) (asks_to_read (operation call.now))
+    ensures { PushesOnOk state.old (entry.Call c call.now None) (is_read_call (operation call.now))
         result state.new (Q.seen queues.new) }
 {
     match word_of(call) {

@@ -5,10 +5,10 @@ use Rattle.std.proofs.Common.{arith, filter, inl, inr}
 use Rattle.std.proofs.lemmas.Bool.{eq-eqb, ne_eqb, lt-ltb, le-ltb, le-leb, lt-leb, cases_order}
 use Rattle.std.proofs.lemmas.Bool.{cases_eq, eqb-true}
 use Rattle.std.specs.List.{list_any}
-use Rattle.pt_model.specs.Searches.{Each, listed}
+use Rattle.pt_model.specs.Searches.{Each, option_list}
 use Rattle.pt_model.specs.declared.waiting_call.WaitingCall.{WaitingCall}
-use Rattle.pt_model.specs.WaitingCall.{at_place}
-use Rattle.pt_model.specs.Found.{passes, keep}
+use Rattle.pt_model.specs.WaitingCall.{call_at_place}
+use Rattle.pt_model.specs.Found.{is_some_and, option_filter}
 
 -- each place is greater than those before it, and at least n
 abbrev pub Ascends : ℕ → List WaitingCall → Type 0
@@ -68,12 +68,12 @@ Each-append P [] ws a b = b
 Each-append P (v ∷ vs) ws a b = (a.0, Each-append P vs ws a.1 b)
 
 -- there is none at a place before all of them
-pub at_place-before :
-    (j n : ℕ) (ws : List WaitingCall) → Ascends n ws → j < n → at_place j ws ≡ None
-at_place-before j n [] a lt = refl
-at_place-before j n (w ∷ ws) a lt =
+pub call_at_place-before :
+    (j n : ℕ) (ws : List WaitingCall) → Ascends n ws → j < n → call_at_place j ws ≡ None
+call_at_place-before j n [] a lt = refl
+call_at_place-before j n (w ∷ ws) a lt =
     let other : eqb w.place j ≡ false = ne_eqb w.place j (λ e. omega (arith, a.0)) in
-    rw other (at_place-before j (suc w.place) ws a.1 (omega (arith, a.0)))
+    rw other (call_at_place-before j (suc w.place) ws a.1 (omega (arith, a.0)))
 
 pub upto-before :
     (i n : ℕ) (ws : List WaitingCall) → Ascends n ws → i ≤ n → upto i ws ≡ []
@@ -92,7 +92,7 @@ from-before i n (w ∷ ws) a le =
 -- those before the next place are those before this one, and the one at this place
 pub upto_more :
     (i n : ℕ) (ws : List WaitingCall) → Ascends n ws
-    → upto (i + 1) ws ≡ upto i ws ++ listed (at_place i ws)
+    → upto (i + 1) ws ≡ upto i ws ++ option_list (call_at_place i ws)
 upto_more i n [] a = refl
 upto_more i n (w ∷ ws) a =
     elim (cases_order w.place i) [
@@ -118,7 +118,7 @@ upto_more i n (w ∷ ws) a =
 -- those from a place on are the one at this place, and those from the next place on
 pub from_more :
     (i n : ℕ) (ws : List WaitingCall) → Ascends n ws
-    → from i ws ≡ listed (at_place i ws) ++ from (i + 1) ws
+    → from i ws ≡ option_list (call_at_place i ws) ++ from (i + 1) ws
 from_more i n [] a = refl
 from_more i n (w ∷ ws) a =
     elim (cases_order w.place i) [
@@ -139,7 +139,7 @@ from_more i n (w ∷ ws) a =
           )
           (rw (
             ne_eqb w.place i (λ e. omega (arith, behind)),
-            at_place-before i (suc w.place) ws a.1 (omega (arith, behind)),
+            call_at_place-before i (suc w.place) ws a.1 (omega (arith, behind)),
             from-before i (suc w.place) ws a.1 (omega (arith, behind)),
             from-before (i + 1) (suc w.place) ws a.1 (omega (arith, behind)),
           ) refl)
@@ -159,73 +159,76 @@ from_all n (w ∷ ws) e =
     let early : leb n w.place ≡ false = lt-leb n w.place e.0 in
     rw early (from_all n ws e.1)
 
-pub at_place-append :
-    (j : ℕ) (vs ws : List WaitingCall) → at_place j vs ≡ None
-    → at_place j (vs ++ ws) ≡ at_place j ws
-at_place-append j [] ws none = refl
-at_place-append j (v ∷ vs) ws none = go (eqb v.place j) none (at_place-append j vs ws)
+pub call_at_place-append :
+    (j : ℕ) (vs ws : List WaitingCall) → call_at_place j vs ≡ None
+    → call_at_place j (vs ++ ws) ≡ call_at_place j ws
+call_at_place-append j [] ws none = refl
+call_at_place-append j (v ∷ vs) ws none = go (eqb v.place j) none (call_at_place-append j vs ws)
   where
-    go : (b : Bool) → cond b (Some v) (at_place j vs) ≡ None
-        → (at_place j vs ≡ None → at_place j (vs ++ ws) ≡ at_place j ws)
-        → cond b (Some v) (at_place j (vs ++ ws)) ≡ at_place j ws
+    go : (b : Bool) → cond b (Some v) (call_at_place j vs) ≡ None
+        → (call_at_place j vs ≡ None → call_at_place j (vs ++ ws) ≡ call_at_place j ws)
+        → cond b (Some v) (call_at_place j (vs ++ ws)) ≡ call_at_place j ws
     go true n ih = absurd cc
     go false n ih = ih n
 
-pub at_place-append_right :
-    (j : ℕ) (vs ws : List WaitingCall) → at_place j ws ≡ None
-    → at_place j (vs ++ ws) ≡ at_place j vs
-at_place-append_right j [] ws none = none
-at_place-append_right j (v ∷ vs) ws none =
-    ap (λ o. cond (eqb v.place j) (Some v) o) (at_place-append_right j vs ws none)
+pub call_at_place-append_right :
+    (j : ℕ) (vs ws : List WaitingCall) → call_at_place j ws ≡ None
+    → call_at_place j (vs ++ ws) ≡ call_at_place j vs
+call_at_place-append_right j [] ws none = none
+call_at_place-append_right j (v ∷ vs) ws none =
+    ap (λ o. cond (eqb v.place j) (Some v) o) (call_at_place-append_right j vs ws none)
 
-pub at_place-below :
-    (j : ℕ) (ws : List WaitingCall) → Each (λ w. w.place < j) ws → at_place j ws ≡ None
-at_place-below j [] e = refl
-at_place-below j (w ∷ ws) e =
+pub call_at_place-below :
+    (j : ℕ) (ws : List WaitingCall) → Each (λ w. w.place < j) ws → call_at_place j ws ≡ None
+call_at_place-below j [] e = refl
+call_at_place-below j (w ∷ ws) e =
     let other : eqb w.place j ≡ false = ne_eqb w.place j (λ k. omega (arith, e.0)) in
-    rw other (at_place-below j ws e.1)
+    rw other (call_at_place-below j ws e.1)
 
 -- the call at a place, after a filter
-pub at_place-filter :
+pub call_at_place-filter :
     (p : WaitingCall → Bool) (i n : ℕ) (ws : List WaitingCall) → Ascends n ws
-    → at_place i (filter p ws) ≡ keep p (at_place i ws)
-at_place-filter p i n [] a = refl
-at_place-filter p i n (w ∷ ws) a =
+    → call_at_place i (filter p ws) ≡ option_filter p (call_at_place i ws)
+call_at_place-filter p i n [] a = refl
+call_at_place-filter p i n (w ∷ ws) a =
     elim (cases_eq w.place i) [
       | inl e ↦ rw (eq-eqb w.place i e) (same (p w) e)
       | inr ne ↦
           rw (ne_eqb w.place i ne)
-          (other (p w) ne (at_place-filter p i (suc w.place) ws a.1))
+          (other (p w) ne (call_at_place-filter p i (suc w.place) ws a.1))
     ]
   where
     same : (b : Bool) → w.place ≡ i
-        → at_place i (cond b (w ∷ filter p ws) (filter p ws)) ≡ cond b (Some w) None
+        → call_at_place i (cond b (w ∷ filter p ws) (filter p ws)) ≡ cond b (Some w) None
     same true e = rw (eq-eqb w.place i e) refl
     same false e =
-        at_place-before i (suc w.place) (filter p ws)
+        call_at_place-before i (suc w.place) (filter p ws)
         (Ascends-filter p (suc w.place) ws a.1) (omega (arith, e))
 
-    other : (b : Bool) → (w.place ≡ i → ⊥) → at_place i (filter p ws) ≡ keep p (at_place i ws)
-        → at_place i (cond b (w ∷ filter p ws) (filter p ws)) ≡ keep p (at_place i ws)
+    other : (b : Bool) → (w.place ≡ i → ⊥) → call_at_place i (filter p ws)
+        ≡ option_filter p (call_at_place i ws)
+        → call_at_place i (cond b (w ∷ filter p ws) (filter p ws))
+        ≡ option_filter p (call_at_place i ws)
     other true ne ih = rw (ne_eqb w.place i ne) ih
     other false ne ih = ih
 
 -- the call at a place has that place
-pub at_place-place :
-    (i : ℕ) (ws : List WaitingCall) (w : WaitingCall) → at_place i ws ≡ Some w → w.place ≡ i
-at_place-place i [] w e = absurd cc
-at_place-place i (v ∷ vs) w e = go (eqb v.place i) refl e (at_place-place i vs w)
+pub call_at_place-place :
+    (i : ℕ) (ws : List WaitingCall) (w : WaitingCall) → call_at_place i ws ≡ Some w → w.place ≡ i
+call_at_place-place i [] w e = absurd cc
+call_at_place-place i (v ∷ vs) w e = go (eqb v.place i) refl e (call_at_place-place i vs w)
   where
-    go : (b : Bool) → eqb v.place i ≡ b → cond b (Some v) (at_place i vs) ≡ Some w
-        → (at_place i vs ≡ Some w → w.place ≡ i) → w.place ≡ i
+    go : (b : Bool) → eqb v.place i ≡ b → cond b (Some v) (call_at_place i vs) ≡ Some w
+        → (call_at_place i vs ≡ Some w → w.place ≡ i) → w.place ≡ i
     go true t k ih = let same : v ≡ w = cc in ap (λ u. u.place) (sym same) ∙ eqb-true v.place i t
     go false t k ih = ih k
 
 -- a test of the place of a call that is found by its place is a test of that place
 pub passes_place :
     (q : WaitingCall → Bool) (j i : ℕ) (ws : List WaitingCall)
-    → passes (λ w. q w && ltb j w.place) (at_place i ws) ≡ (ltb j i && passes q (at_place i ws))
-passes_place q j i ws = go (at_place i ws) refl
+    → is_some_and (λ w. q w && ltb j w.place) (call_at_place i ws) ≡ (ltb j i
+    && is_some_and q (call_at_place i ws))
+passes_place q j i ws = go (call_at_place i ws) refl
   where
     swap : (a b : Bool) → (a && b) ≡ (b && a)
     swap true true = refl
@@ -237,10 +240,10 @@ passes_place q j i ws = go (at_place i ws) refl
     none true = refl
     none false = refl
 
-    go : (o : Option WaitingCall) → at_place i ws ≡ o
-        → passes (λ w. q w && ltb j w.place) o ≡ (ltb j i && passes q o)
+    go : (o : Option WaitingCall) → call_at_place i ws ≡ o
+        → is_some_and (λ w. q w && ltb j w.place) o ≡ (ltb j i && is_some_and q o)
     go None e = none (ltb j i)
-    go (Some w) e = ap (λ k. q w && ltb j k) (at_place-place i ws w e) ∙ swap (q w) (ltb j i)
+    go (Some w) e = ap (λ k. q w && ltb j k) (call_at_place-place i ws w e) ∙ swap (q w) (ltb j i)
 
 -- a search of those that pass a filter
 pub any-filter :
@@ -261,13 +264,15 @@ or_true false = refl
 
 -- what is found at a place is in the list
 pub any-at :
-    (p : WaitingCall → Bool) (i : ℕ) (ws : List WaitingCall) → passes p (at_place i ws) ≡ true
+    (p : WaitingCall → Bool) (i : ℕ) (ws : List WaitingCall) → is_some_and p (call_at_place i ws)
+    ≡ true
     → list_any p ws ≡ true
 any-at p i [] e = absurd cc
 any-at p i (w ∷ ws) e = go (eqb w.place i) e (any-at p i ws)
   where
-    go : (b : Bool) → passes p (cond b (Some w) (at_place i ws)) ≡ true
-        → (passes p (at_place i ws) ≡ true → list_any p ws ≡ true) → (p w || list_any p ws) ≡ true
+    go : (b : Bool) → is_some_and p (cond b (Some w) (call_at_place i ws)) ≡ true
+        → (is_some_and p (call_at_place i ws) ≡ true → list_any p ws ≡ true) → (p w
+        || list_any p ws) ≡ true
     go true t ih = rw t refl
     go false t ih = rw (ih t) (or_true (p w))
 
@@ -275,18 +280,18 @@ any-at p i (w ∷ ws) e = go (eqb w.place i) e (any-at p i ws)
 pub any-nowhere :
     (p : WaitingCall → Bool) (m n : ℕ) (ws : List WaitingCall) → Ascends m ws
     → Each (λ w. w.place < n) ws
-    → ((k : ℕ) → k < n → passes p (at_place k ws) ≡ false) → list_any p ws ≡ false
+    → ((k : ℕ) → k < n → is_some_and p (call_at_place k ws) ≡ false) → list_any p ws ≡ false
 any-nowhere p m n [] a b f = refl
 any-nowhere p m n (w ∷ ws) a b f =
     let first : p w ≡ false = rw (eq-eqb w.place w.place refl) at (f w.place b.0) in
     rw first (any-nowhere p (suc w.place) n ws a.1 b.1 rest)
   where
-    rest : (k : ℕ) → k < n → passes p (at_place k ws) ≡ false
+    rest : (k : ℕ) → k < n → is_some_and p (call_at_place k ws) ≡ false
     rest k lt =
         elim (cases_order w.place k) [
-          | inl same ↦ rw (at_place-before k (suc w.place) ws a.1 (omega (arith, same))) refl
+          | inl same ↦ rw (call_at_place-before k (suc w.place) ws a.1 (omega (arith, same))) refl
           | inr (inl before) ↦
               rw (ne_eqb w.place k (λ e. omega (arith, before))) at (f k lt)
           | inr (inr behind) ↦
-              rw (at_place-before k (suc w.place) ws a.1 (omega (arith, behind))) refl
+              rw (call_at_place-before k (suc w.place) ws a.1 (omega (arith, behind))) refl
         ]

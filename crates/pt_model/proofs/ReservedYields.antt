@@ -15,13 +15,13 @@ use Rattle.pt_types.specs.declared.operations.ObjectClass.TheVariants.{Barrier a
 use Rattle.pt_model.specs.Searches.{count_below}
 use Rattle.pt_model.specs.Histories.{History, place}
 use Rattle.pt_model.specs.Clients.{is_alive}
-use Rattle.pt_model.specs.Objects.{find, kind_of, is_robust}
+use Rattle.pt_model.specs.Objects.{find_object, kind_of, is_robust}
 use Rattle.pt_model.specs.declared.waiting_call.Role.{Role}
 use Rattle.pt_model.specs.declared.waiting_call.Role.TheVariants.{ForMutex, ForRead, ForWrite}
 use Rattle.pt_model.specs.declared.waiting_call.Role.TheVariants.{ForBarrier, ForCond}
-use Rattle.pt_model.specs.Mutexes.{count, owner}
+use Rattle.pt_model.specs.Mutexes.{mutex_count, owner}
 use Rattle.pt_model.specs.Forced.{is_orphan, is_dead_if, forced}
-use Rattle.pt_model.specs.Verdicts.{mutex_awaited, is_alive_if, is_busy}
+use Rattle.pt_model.specs.Verdicts.{mutex_of_wait, is_alive_if, is_busy}
 use Rattle.pt_model.specs.Room.{is_robust_owned}
 use Rattle.pt_model.specs.Steps.{Follows}
 use Rattle.pt_model.proofs.Counting.{count_below-less, count_below-one_more, count_below-same}
@@ -40,13 +40,13 @@ plus_none n = omega arith
 -- the mutex that an effect gives back a lock on
 abbrev pub freed : Effect → Option ℕ
 freed (Frees m) = Some m
-freed (Waits w) = mutex_awaited w.role
+freed (Waits w) = mutex_of_wait w.role
 freed _ = None
 
 -- whether that is the last lock on a robust mutex, for whose Yield one entry was reserved
 abbrev pub released_if : History → ℕ → Option ℕ → ℕ
 released_if h c None = 0
-released_if h c (Some m) = cond (is_robust (kind_of h m) && (count h m c == 1)) 1 0
+released_if h c (Some m) = cond (is_robust (kind_of h m) && (mutex_count h m c == 1)) 1 0
 
 abbrev pub released : History → ℕ → Effect → ℕ
 released h c E = released_if h c (freed E)
@@ -56,31 +56,32 @@ module _ (h : History) (f : Follows h) where
   abbrev pub robust_after : ℕ → Effect → ℕ → Bool
   robust_after c E m =
       is_robust (kind_effect (place h) E (kind_of h m) m) && is_some
-      (cond (gives_up E m && (count h m c == 1)) None (owner h m))
+      (cond (gives_up E m && (mutex_count h m c == 1)) None (owner h m))
 
   robust_made : (k : Option ObjectKind) → is_robust k ≡ true → is_some k ≡ true
   robust_made None e = absurd cc
   robust_made (Some k) e = refl
 
-  none_same : (k m c : ℕ) (b : Bool) → (count h k c == 1) ≡ false → (k == m) ≡ b
-      → ((k == m) && (count h m c == 1)) ≡ false
+  none_same : (k m c : ℕ) (b : Bool) → (mutex_count h k c == 1) ≡ false → (k == m) ≡ b
+      → ((k == m) && (mutex_count h m c == 1)) ≡ false
   none_same k m c true e eb =
       let same : k ≡ m = grind (arith, nat_tests) in rw eb
-      (ap (λ x. count h x c == 1) (sym same) ∙ e)
+      (ap (λ x. mutex_count h x c == 1) (sym same) ∙ e)
   none_same k m c false e eb = rw eb refl
 
   -- after the last lock on a robust mutex is given back, one robust mutex less has an owner
-  freed_last : (k c : ℕ) → owning h k c ≡ true → is_robust (kind_of h k) ≡ true → (count h k c == 1)
+  freed_last : (k c : ℕ) → owning h k c ≡ true → is_robust (kind_of h k) ≡ true
+      → (mutex_count h k c == 1)
       ≡ true
       → suc (count_below (place h) (λ m. is_robust (kind_of h m) && is_some
-      (cond ((k == m) && (count h m c == 1)) None (owner h m)))) ≡ reserved_yields h
+      (cond ((k == m) && (mutex_count h m c == 1)) None (owner h m)))) ≡ reserved_yields h
   freed_last k c own r l =
       let here : (k == k) ≡ true = grind (arith, nat_tests) in
       let before : is_robust_owned h k ≡ true =
       and_from (is_robust (kind_of h k)) (is_some (owner h k)) r
       (ap is_some (owning-owner h k c own)) in
       let gone : (is_robust (kind_of h k) && is_some
-      (cond ((k == k) && (count h k c == 1)) None (owner h k)))
+      (cond ((k == k) && (mutex_count h k c == 1)) None (owner h k)))
       ≡ false = rw (r, here, l) refl in
       let lt : k < place h = kind_below h k (Fresh-follows h f) (robust_made (kind_of h k) r) in
       let less =
@@ -92,7 +93,7 @@ module _ (h : History) (f : Follows h) where
     where
       s : ℕ → Bool
       s m =
-          is_robust (kind_of h m) && is_some (cond ((k == m) && (count h m c == 1)) None
+          is_robust (kind_of h m) && is_some (cond ((k == m) && (mutex_count h m c == 1)) None
           (owner h m))
 
       some_of : (b : Bool) (o : Option ℕ) → is_some (cond b None o) ≡ true → is_some o ≡ true
@@ -103,9 +104,9 @@ module _ (h : History) (f : Follows h) where
       weaker m t =
           let p =
           and_parts (is_robust (kind_of h m))
-          (is_some (cond ((k == m) && (count h m c == 1)) None (owner h m))) t in
+          (is_some (cond ((k == m) && (mutex_count h m c == 1)) None (owner h m))) t in
           and_from (is_robust (kind_of h m)) (is_some (owner h m)) p.0
-          (some_of ((k == m) && (count h m c == 1)) (owner h m) p.1)
+          (some_of ((k == m) && (mutex_count h m c == 1)) (owner h m) p.1)
 
       other : (m : ℕ) (b : Bool) → (k == m) ≡ b → is_robust_owned h m ≡ true → (s m ≡ true)
           ⊎ (m ≡ k)
@@ -114,13 +115,13 @@ module _ (h : History) (f : Follows h) where
 
   freed_yields : (k c : ℕ) → owning h k c ≡ true
       → count_below (place h) (λ m. is_robust (kind_of h m) && is_some
-      (cond ((k == m) && (count h m c == 1)) None (owner h m))) + cond
-      (is_robust (kind_of h k) && (count h k c == 1)) 1 0 ≡ reserved_yields h
-  freed_yields k c own = go (is_robust (kind_of h k)) (count h k c == 1) refl refl
+      (cond ((k == m) && (mutex_count h m c == 1)) None (owner h m))) + cond
+      (is_robust (kind_of h k) && (mutex_count h k c == 1)) 1 0 ≡ reserved_yields h
+  freed_yields k c own = go (is_robust (kind_of h k)) (mutex_count h k c == 1) refl refl
     where
       s : ℕ → Bool
       s m =
-          is_robust (kind_of h m) && is_some (cond ((k == m) && (count h m c == 1)) None
+          is_robust (kind_of h m) && is_some (cond ((k == m) && (mutex_count h m c == 1)) None
           (owner h m))
 
       same_but : (a : Bool) (m : ℕ) → is_robust (kind_of h k) ≡ false → (k == m) ≡ a → s m
@@ -132,7 +133,7 @@ module _ (h : History) (f : Follows h) where
           rw plain refl
       same_but false m r e = rw e refl
 
-      go : (a b : Bool) → is_robust (kind_of h k) ≡ a → (count h k c == 1) ≡ b
+      go : (a b : Bool) → is_robust (kind_of h k) ≡ a → (mutex_count h k c == 1) ≡ b
           → count_below (place h) s + cond (a && b) 1 0 ≡ reserved_yields h
       go true true ea eb = omega (arith, freed_last k c own ea eb)
       go true false ea eb =
@@ -149,7 +150,8 @@ module _ (h : History) (f : Follows h) where
           )
 
   -- an object that may be destroyed is no robust mutex with an owner
-  ended_unowned : (n : List ℕ) (s : ObjectClass) (q : ℕ) → forced h ≡ None → find h n s ≡ Some q
+  ended_unowned : (n : List ℕ) (s : ObjectClass) (q : ℕ) → forced h ≡ None → find_object h n s
+      ≡ Some q
       → is_busy h s q ≡ false → is_robust_owned h q ≡ false
   ended_unowned n s q none e idle =
       let u = found_object h n s q e in
@@ -200,8 +202,8 @@ module _ (h : History) (f : Follows h) where
     where
       go : (role : Role) → Seated h c role w.object
           → count_below (place h) (λ m. is_robust (kind_of h m) && is_some
-          (cond (awaited role m && (count h m c == 1)) None (owner h m))) + released_if h c
-          (mutex_awaited role) ≡ reserved_yields h
+          (cond (awaited role m && (mutex_count h m c == 1)) None (owner h m))) + released_if h c
+          (mutex_of_wait role) ≡ reserved_yields h
       go (ForCond k) s = freed_yields k c s.1.1
       go ForMutex s = plus_none (reserved_yields h)
       go ForRead s = plus_none (reserved_yields h)

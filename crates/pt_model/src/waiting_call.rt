@@ -1,13 +1,13 @@
 //! Waiting calls: what each waits for, when it was moved, and which goes before another.
 
 ghost use Rattle.std.specs.Prelude.{◌≡◌};
-ghost use Rattle.pt_model.specs.WaitingCall.{role_needed as role_meant};
-ghost use Rattle.pt_model.specs.WaitingCall.{is_arrival as is_arrival_role};
-ghost use Rattle.pt_model.specs.WaitingCall.{is_wait as is_wait_role, is_write as is_write_role};
-ghost use Rattle.pt_model.specs.WaitingCall.{mutex_of as mutex_meant};
-ghost use Rattle.pt_model.specs.Moves.{key_by};
+ghost use Rattle.pt_model.specs.WaitingCall.{role_of_lock};
+ghost use Rattle.pt_model.specs.WaitingCall.{is_barrier_wait};
+ghost use Rattle.pt_model.specs.WaitingCall.{is_cond_wait, is_write_lock};
+ghost use Rattle.pt_model.specs.WaitingCall.{final_mutex};
+ghost use Rattle.pt_model.specs.Moves.{call_key_by};
 ghost use Rattle.pt_model.specs.Grants.{is_expired as is_expired_by};
-ghost use Rattle.pt_model.specs.Verdicts.{mutex_awaited as mutex_awaited_by};
+ghost use Rattle.pt_model.specs.Verdicts.{mutex_of_wait};
 
 use crate::entry::Cause;
 use pt_types::key_order::Key;
@@ -51,8 +51,8 @@ pub struct Move {
 }
 
 /// Returns the role of a call for a lock of this kind.
-pub fn role_needed(lock_kind: LockKind) -> Role
-    ensures { result ≡ role_meant lock_kind }
+pub fn role_of_lock(lock_kind: LockKind) -> Role
+    ensures { result ≡ role_of_lock lock_kind }
 {
     match lock_kind {
         LockKind::MutexLock => Role::ForMutex,
@@ -62,22 +62,22 @@ pub fn role_needed(lock_kind: LockKind) -> Role
 }
 
 /// Returns whether the role is that of a call for a barrier.  [XSH pthread_barrier_wait]
-pub fn is_arrival(role: Role) -> bool
-    ensures { result ≡ is_arrival_role role }
+pub fn is_barrier_wait(role: Role) -> bool
+    ensures { result ≡ is_barrier_wait role }
 {
     matches!(role, Role::ForBarrier)
 }
 
 /// Returns whether the role is that of a wait.  [XSH pthread_cond_wait]
-pub fn is_wait(role: Role) -> bool
-    ensures { result ≡ is_wait_role role }
+pub fn is_cond_wait(role: Role) -> bool
+    ensures { result ≡ is_cond_wait role }
 {
     matches!(role, Role::ForCond(_))
 }
 
 /// Returns whether the role is that of a call for a write lock.  [XSH pthread_rwlock_wrlock]
-pub fn is_write(role: Role) -> bool
-    ensures { result ≡ is_write_role role }
+pub fn is_write_lock(role: Role) -> bool
+    ensures { result ≡ is_write_lock role }
 {
     matches!(role, Role::ForWrite)
 }
@@ -85,7 +85,7 @@ pub fn is_write(role: Role) -> bool
 /// Returns the mutex for which a call waits in the end: the object of a call for a mutex, or the
 /// mutex of a wait.  [XSH pthread_mutex_lock, pthread_cond_wait]
 pub fn mutex_of(w: &WaitingCall) -> Option<ObjectId>
-    ensures { result ≡ mutex_meant w.now.role w.now.object }
+    ensures { result ≡ final_mutex w.now.role w.now.object }
 {
     match w.role {
         Role::ForMutex => Some(w.object),
@@ -95,8 +95,8 @@ pub fn mutex_of(w: &WaitingCall) -> Option<ObjectId>
 }
 
 /// Returns the mutex of a wait.  [XSH pthread_cond_wait]
-pub fn mutex_awaited(role: Role) -> Option<ObjectId>
-    ensures { result ≡ mutex_awaited_by role }
+pub fn mutex_of_wait(role: Role) -> Option<ObjectId>
+    ensures { result ≡ mutex_of_wait role }
 {
     match role {
         Role::ForCond(m) => Some(m),
@@ -116,11 +116,11 @@ pub fn is_expired(moved: Option<Move>) -> bool
 
 /// Returns the key by which a call goes before another, if this is its move.  [XSH 2.8.4]
 pub fn key_with(w: &WaitingCall, moved: Option<Move>) -> Key
-    ensures { result ≡ key_by (λ j. moved) w.now }
+    ensures { result ≡ call_key_by (λ j. moved) w.now }
 {
     Key {
         priority: w.priority,
-        writes: is_write(w.role),
+        writes: is_write_lock(w.role),
         arrival: match moved {
             Some(moved) => (moved.at, w.place),
             None => (w.place, w.place),

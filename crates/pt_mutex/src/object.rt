@@ -2,7 +2,7 @@ ghost use Rattle.std.specs.Prelude.{◌≡◌, ◌<◌, ◌+◌, ◌-◌, ◌↔
 ghost use Rattle.pt_types.specs.ObjectTable.{destroy_verdict};
 ghost use Rattle.pt_types.specs.MutexTable.{owns, lock_verdict, unlock_verdict, consistent_verdict};
 
-use pt_types::{ClientId, Consistency, Deadline, How, MOST_LOCKS, MutexKind, Outcome, Verdict};
+use pt_types::{ClientId, Consistency, Deadline, How, MAX_LOCKS, MutexKind, Outcome, Verdict};
 use std::marker::Model;
 
 // consistency      count falls to 0    owner dies        consistent
@@ -31,7 +31,7 @@ impl Model for MutexObj {
     ghost Value = { MutexState };
 
     ghost view = { λ m. record {
-      seen = record {
+      view = record {
         kind = m.kind;
         robust = m.robust;
         consistency = m.consistency;
@@ -48,12 +48,14 @@ impl Model for MutexObj {
 }
 
 impl MutexObj {
-    ghost use Rattle.pt_mutex.specs.MutexState.{made, can_acquire, acquired, released, yielded};
-    ghost use Rattle.pt_mutex.specs.MutexState.{restored, freed, is_busy};
+    ghost use Rattle.pt_mutex.specs.MutexState.{new_mutex, can_acquire, mutex_after_acquire};
+    ghost use Rattle.pt_mutex.specs.MutexState.{mutex_after_release, mutex_after_yield};
+    ghost use Rattle.pt_mutex.specs.MutexState.{mutex_after_consistent, mutex_without_owner};
+    ghost use Rattle.pt_mutex.specs.MutexState.{is_mutex_busy};
 
     /// Creates a consistent mutex that nobody holds.  [XSH pthread_mutex_init]
     pub fn new(kind: MutexKind, robust: bool) -> MutexObj
-        ensures { result ≡ made kind robust }
+        ensures { result ≡ new_mutex kind robust }
     {
         MutexObj {
             kind,
@@ -67,14 +69,14 @@ impl MutexObj {
 
     /// Returns the verdict of the client's `lock`.  [XSH pthread_mutex_lock]
     pub fn verdict_lock(&self, caller: ClientId) -> Verdict
-        ensures { result ≡ lock_verdict self.now.seen caller How.Plain }
+        ensures { result ≡ lock_verdict self.now.view caller How.Plain }
     {
         self.verdict(caller, &How::Plain)
     }
 
     /// Returns the verdict of the client's `trylock`.  [XSH pthread_mutex_trylock]
     pub fn verdict_try(&self, caller: ClientId) -> Verdict
-        ensures { result ≡ lock_verdict self.now.seen caller How.Try }
+        ensures { result ≡ lock_verdict self.now.view caller How.Try }
     {
         self.verdict(caller, &How::Try)
     }
@@ -82,13 +84,13 @@ impl MutexObj {
     /// Returns the verdict of the client's `timedlock`. Doesn't check whether the deadline is due.
     /// [XSH pthread_mutex_timedlock]
     pub fn verdict_timed(&self, caller: ClientId, deadline: Deadline) -> Verdict
-        ensures { result ≡ lock_verdict self.now.seen caller (How.Timed deadline) }
+        ensures { result ≡ lock_verdict self.now.view caller (How.Timed deadline) }
     {
         self.verdict(caller, &How::Timed(deadline))
     }
 
     fn verdict(&self, caller: ClientId, how: &How) -> Verdict
-        ensures { result ≡ lock_verdict self.now.seen caller how.now }
+        ensures { result ≡ lock_verdict self.now.view caller how.now }
     {
         if self.consistency == Consistency::NotRecoverable || self.owner.is_none() {
             return Verdict::Stands;
@@ -96,7 +98,7 @@ impl MutexObj {
         let owns = self.is_owned_by(caller);
         let relocks = owns && self.kind == MutexKind::Recursive;
         match how {
-            _ if relocks && self.count < MOST_LOCKS => Verdict::Reply(Outcome::Done),
+            _ if relocks && self.count < MAX_LOCKS => Verdict::Reply(Outcome::Done),
             _ if relocks => Verdict::Reply(Outcome::Eagain),
             How::Try => Verdict::Reply(Outcome::Ebusy),
             _ if owns && self.kind == MutexKind::Errorcheck => Verdict::Reply(Outcome::Edeadlk),
@@ -109,7 +111,7 @@ impl MutexObj {
     /// every kind of mutex; that is profile if the standard leaves it open.
     /// [XSH pthread_mutex_unlock]
     pub fn verdict_unlock(&self, caller: ClientId) -> Verdict
-        ensures { result ≡ unlock_verdict self.now.seen caller }
+        ensures { result ≡ unlock_verdict self.now.view caller }
     {
         if self.is_owned_by(caller) {
             Verdict::Reply(Outcome::Done)
@@ -121,7 +123,7 @@ impl MutexObj {
     /// Returns the verdict of the client's `consistent`. EPERM is profile.
     /// [XSH pthread_mutex_consistent]
     pub fn verdict_consistent(&self, caller: ClientId) -> Verdict
-        ensures { result ≡ consistent_verdict self.now.seen caller }
+        ensures { result ≡ consistent_verdict self.now.view caller }
     {
         if !self.robust || self.consistency != Consistency::Inconsistent {
             return Verdict::Reply(Outcome::Einval);
@@ -139,7 +141,7 @@ impl MutexObj {
     /// `owner_lives` is whether the owner lives, if the mutex has one, and `awaited` is whether a
     /// call waits at the mutex.
     pub fn verdict_destroy(&self, owner_lives: bool, awaited: bool) -> Verdict
-        ensures { result ≡ destroy_verdict (is_busy self.now owner_lives awaited) }
+        ensures { result ≡ destroy_verdict (is_mutex_busy self.now owner_lives awaited) }
     {
         if self.owner.is_some() && owner_lives || awaited || 0 < self.bound_waits {
             return Verdict::Reply(Outcome::Ebusy);
@@ -151,8 +153,8 @@ impl MutexObj {
     /// mutex must have no owner, or be a RECURSIVE one that the client owns with fewer than 255
     /// locks.  [XSH pthread_mutex_lock, pthread_cond_wait]
     pub fn acquire(&mut self, client: ClientId)
-        requires { IsTrue (can_acquire self.old.seen client) }
-        ensures { self.new ≡ record self.old { seen = acquired self.old.seen client } }
+        requires { IsTrue (can_acquire self.old.view client) }
+        ensures { self.new ≡ record self.old { view = mutex_after_acquire self.old.view client } }
     {
         self.owner = Some(client);
         self.count += 1;
@@ -162,8 +164,8 @@ impl MutexObj {
     /// inconsistent mutex becomes not recoverable.
     /// [XSH pthread_mutex_unlock, pthread_mutex_consistent]
     pub fn release(&mut self, client: ClientId)
-        requires { IsTrue (owns self.old.seen client) }
-        ensures { self.new ≡ record self.old { seen = released self.old.seen } }
+        requires { IsTrue (owns self.old.view client) }
+        ensures { self.new ≡ record self.old { view = mutex_after_release self.old.view } }
     {
         prove!(self.owner == Some(client));
         if self.count > 1 {
@@ -177,8 +179,8 @@ impl MutexObj {
     }
 
     fn free(&mut self)
-        ensures { let seen = self.old.seen in
-            self.new ≡ record self.old { seen = freed seen seen.consistency } }
+        ensures { let view = self.old.view in
+            self.new ≡ record self.old { view = mutex_without_owner view view.consistency } }
     {
         self.owner = None;
         self.count = 0;
@@ -187,7 +189,7 @@ impl MutexObj {
     /// Makes an inconsistent mutex consistent. A mutex that is not recoverable stays so.
     /// [XSH pthread_mutex_consistent]
     pub fn mark_consistent(&mut self)
-        ensures { self.new ≡ record self.old { seen = restored self.old.seen } }
+        ensures { self.new ≡ record self.old { view = mutex_after_consistent self.old.view } }
     {
         if self.consistency == Consistency::Inconsistent {
             self.consistency = Consistency::Consistent;
@@ -197,7 +199,7 @@ impl MutexObj {
     /// Takes the mutex from its dead owner and makes it inconsistent. A mutex that is not
     /// recoverable stays so.  [XSH pthread_mutex_lock, EOWNERDEAD]
     pub fn yield_dead(&mut self)
-        ensures { self.new ≡ record self.old { seen = yielded self.old.seen } }
+        ensures { self.new ≡ record self.old { view = mutex_after_yield self.old.view } }
     {
         self.free();
         if self.consistency == Consistency::Consistent {
@@ -207,7 +209,7 @@ impl MutexObj {
 
     /// Binds a wait of the owner, which begins to wait at its condition.  [XSH pthread_cond_wait]
     pub fn bind(&mut self)
-        requires owned { IsSome self.old.seen.owner }
+        requires owned { IsSome self.old.view.owner }
         requires room { self.old.bound_waits < u32.MAX }
         ensures { self.new ≡ record self.old { bound_waits = self.old.bound_waits + 1 } }
     {
@@ -225,7 +227,7 @@ impl MutexObj {
     /// Returns the kind of the mutex: what a relock by the owner does.
     /// [XSH pthread_mutexattr_settype]
     pub fn kind(&self) -> MutexKind
-        ensures { result ≡ self.now.seen.kind }
+        ensures { result ≡ self.now.view.kind }
     {
         self.kind
     }
@@ -233,7 +235,7 @@ impl MutexObj {
     /// Returns whether the next owner learns that the last one died.
     /// [XSH pthread_mutexattr_setrobust]
     pub fn is_robust(&self) -> bool
-        ensures { result ≡ self.now.seen.robust }
+        ensures { result ≡ self.now.view.robust }
     {
         self.robust
     }
@@ -241,21 +243,21 @@ impl MutexObj {
     /// Returns the consistency of the mutex: whether what it guards is in order.
     /// [XSH pthread_mutex_consistent]
     pub fn consistency(&self) -> Consistency
-        ensures { result ≡ self.now.seen.consistency }
+        ensures { result ≡ self.now.view.consistency }
     {
         self.consistency
     }
 
     /// Returns the client that owns the mutex, dead or alive.  [XSH pthread_mutex_lock]
     pub fn owner(&self) -> Option<ClientId>
-        ensures { result ≡ self.now.seen.owner }
+        ensures { result ≡ self.now.view.owner }
     {
         self.owner
     }
 
     /// Returns whether the client is the owner.  [XSH pthread_mutex_lock]
     pub fn is_owned_by(&self, client: ClientId) -> bool
-        ensures { result ≡ owns self.now.seen client }
+        ensures { result ≡ owns self.now.view client }
     {
         self.owner == Some(client)
     }
@@ -263,8 +265,8 @@ impl MutexObj {
     /// Returns how many locks the owner has, which is 0 exactly if nobody owns the mutex.
     /// [XSH pthread_mutex_lock]
     pub fn count(&self) -> u8
-        ensures value { result ≡ self.now.seen.count }
-        ensures none { IsNone self.now.seen.owner ↔ (result ≡ 0) }
+        ensures value { result ≡ self.now.view.count }
+        ensures none { IsNone self.now.view.owner ↔ (result ≡ 0) }
     {
         self.count
     }

@@ -3,7 +3,7 @@ use Rattle.std.proofs.Common.{◌≡◌, ◌∙◌, ◌||◌, ◌+◌, ℕ, Bool
 use Rattle.std.proofs.Common.{Some, None, is_some, refl, ap, arith, true≢false}
 use Rattle.std.specs.Option.{option_map}
 use Rattle.pt_table.specs.declared.objects.ObjectRow.{ObjectRow}
-use Rattle.pt_table.specs.ObjectRows.{object_at, link_of, and_object, is_taken, out_of_chains}
+use Rattle.pt_table.specs.ObjectRows.{object_at, link_of, and_object, is_in_use, out_of_chains}
 use Rattle.pt_table.specs.Linked.{linked_by}
 use Rattle.pt_table.proofs.ChainCallers.{link-added}
 use Rattle.pt_parts_tests.specs.Linking.{AreFree, IsFree}
@@ -32,7 +32,7 @@ kept rows new n e free =
 
 -- one more row is added
 pub one-more : (rows : List (ObjectRow ℕ)) (number : ℕ) (name : List ℕ) (value : ℕ)
-    → is_taken rows number name ≡ false → AreFree rows number
+    → is_in_use rows number name ≡ false → AreFree rows number
     → AreFree (and_object rows number name value) (number + 1)
 one-more rows number name value taken free n less =
     go (nat_eq n number) refl

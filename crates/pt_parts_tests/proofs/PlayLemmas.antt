@@ -2,9 +2,9 @@
 use Rattle.std.proofs.Common.{ℕ, ◌≡◌, ◌<◌, ◌+◌, Bool, List, sym, subst, arith, ◌∙◌}
 use Rattle.std.specs.List.{AllByRecursion as Each}
 use Rattle.pt_waitq.specs.declared.waiter.Waiter.{Waiter}
-use Rattle.pt_waitq.specs.Queues.{queues_of, without}
+use Rattle.pt_waitq.specs.Queues.{queues_of, other_waiters}
 use Rattle.pt_waitq.specs.ListLemmas.{Each-weaker}
-use Rattle.pt_waitq.proofs.CallerLemmas.{without-each}
+use Rattle.pt_waitq.proofs.CallerLemmas.{other_waiters-each}
 use Rattle.pt_parts_tests.specs.Playing.{IsInPlay}
 
 -- a waiter that came before a place came before the next one too
@@ -37,12 +37,12 @@ plays-same before after admitted admits made makes n p a m e =
     (later n (before q) (p.earlier q)))
 
 -- a change that takes a client's waiters out
-pub plays-without : (before after : ℕ → List Waiter) (admitted admits made makes : ℕ → Bool)
+pub plays-other_waiters : (before after : ℕ → List Waiter) (admitted admits made makes : ℕ → Bool)
     (client n : ℕ) → IsInPlay (queues_of before admitted made) n → ((c : ℕ) → admits c ≡ admitted c)
-    → ((q : ℕ) → makes q ≡ made q) → ((q : ℕ) → after q ≡ without client (before q))
+    → ((q : ℕ) → makes q ≡ made q) → ((q : ℕ) → after q ≡ other_waiters client (before q))
     → IsInPlay (queues_of after admits makes) (n + 1)
-plays-without before after admitted admits made makes client n p a m e =
+plays-other_waiters before after admitted admits made makes client n p a m e =
     plays before after admitted admits made makes n p a m (λ q.
     subst (λ (ws : List Waiter). Each (λ v. v.moved < n + 1) ws) (sym (e q))
-    (without-each (λ v. v.moved < n + 1) client (before q)
+    (other_waiters-each (λ v. v.moved < n + 1) client (before q)
     (later n (before q) (p.earlier q))))

@@ -13,5 +13,5 @@ queues_in_play = 2
 -- the clients are admitted, the queues are made, and all waiters came before this place
 pub record IsInPlay (v : QueuesView) (place : ℕ) : Type 0 where
   pub clients : (c : ℕ) → c < clients_in_play → v.admitted c ≡ true
-  pub queues : (q : ℕ) → q < queues_in_play → v.made q ≡ true
+  pub queues : (q : ℕ) → q < queues_in_play → v.is_queue q ≡ true
   pub earlier : (q : ℕ) → Each (λ w. w.moved < place) (v.queue q)

@@ -17,7 +17,7 @@ use pt_types::Priority;
 // Returns the priority of this level.
 fn priority(level: u64) -> Priority
     requires least { 1 ≤ level }
-    requires most { level ≤ 99 }
+    requires within { level ≤ 99 }
 {
     Priority::new(level).unwrap()
 }

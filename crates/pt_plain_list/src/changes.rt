@@ -11,7 +11,7 @@ use std::alloc::Allocator;
 
 /// Removes a client.
 fn forget_client<A: Allocator>(clients: &mut Vec<ClientId, A>, client: ClientId)
-    ensures kept { clients.new.items ≡ filter (λ d. not (d == client)) clients.old.items }
+    ensures others { clients.new.items ≡ filter (λ d. not (d == client)) clients.old.items }
     ensures bound { vec_len clients.new ≤ vec_len clients.old }
     ensures room { vec_capacity clients.new ≡ vec_capacity clients.old }
 {
@@ -26,7 +26,8 @@ fn forget_client<A: Allocator>(clients: &mut Vec<ClientId, A>, client: ClientId)
 
 /// Removes a client's entries.
 fn forget_waiter<A: Allocator>(entries: &mut Vec<(ObjectId, Waiter), A>, client: ClientId)
-    ensures kept { entries.new.items ≡ filter (λ e. not (e.1.client == client)) entries.old.items }
+    ensures others { entries.new.items
+        ≡ filter (λ e. not (e.1.client == client)) entries.old.items }
     ensures bound { vec_len entries.new ≤ vec_len entries.old }
     ensures room { vec_capacity entries.new ≡ vec_capacity entries.old }
 {
@@ -62,7 +63,7 @@ pub(crate) fn unmake<A: Allocator>(objects: &mut Vec<ObjectId, A>, object: Objec
 }
 
 /// Removes a client that waits nowhere.
-pub(crate) fn leave<A: Allocator>(
+pub(crate) fn remove_client<A: Allocator>(
     idle: &mut Vec<ClientId, A>,
     waiting: &[(ObjectId, Waiter)],
     client: ClientId,

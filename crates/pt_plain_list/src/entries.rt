@@ -3,8 +3,9 @@
 ghost use Rattle.std.specs.Prelude.{◌≡◌, ◌<◌, ◌^◌, ◌+◌, ◌==◌, ◌∷◌, [], ℕ, ◌&&◌, true};
 ghost use Rattle.std.specs.Prelude.{if◌then◌else◌, length, Some, false, IfSome, IfNone};
 ghost use Rattle.std.specs.List.{list_any};
-ghost use Rattle.pt_waitq.specs.Queues.{In, comes_before, head_of, first_writer_of, holds_back};
-ghost use Rattle.pt_waitq.specs.Queues.{stands_in, of_client};
+ghost use Rattle.pt_waitq.specs.Queues.{In, comes_before, head_of, first_writer_of};
+ghost use Rattle.pt_waitq.specs.Queues.{blocks_readers_from};
+ghost use Rattle.pt_waitq.specs.Queues.{is_queued_in, of_client};
 ghost use Rattle.pt_waitq.specs.Waits.{queue_of, has_waiter, IsOnce};
 ghost use Rattle.pt_plain_list.specs.Earlier.{earlier_of};
 
@@ -96,7 +97,7 @@ pub(crate) fn blocks_reader(
     object: ObjectId,
     prio: Priority,
 ) -> bool
-    ensures { result ≡ list_any (holds_back prio) (queue_of object entries.now) }
+    ensures { result ≡ list_any (blocks_readers_from prio) (queue_of object entries.now) }
 {
     for i in 0..entries.len() {
         let entry = &entries[i];
@@ -148,7 +149,8 @@ pub(crate) fn waiter_of(
     requires { IsOnce entries.now }
     ensures found { IfSome result (λ e. (q : ℕ)
         → of_client client (queue_of q entries.now) ≡ (if e.0 == q then e.1 ∷ [] else [])) }
-    ensures nowhere { IfNone result ((q : ℕ) → stands_in client (queue_of q entries.now) ≡ false) }
+    ensures nowhere { IfNone result ((q : ℕ) → is_queued_in client (queue_of q entries.now)
+        ≡ false) }
 {
     entry_of(entries, client)
 }

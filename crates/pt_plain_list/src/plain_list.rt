@@ -18,14 +18,14 @@ pub struct PlainList<A: Allocator + Copy = Global> {
 
 impl<A: Allocator + Copy> Model for PlainList<A> {
     ghost use Rattle.std.specs.Prelude.{◌≤◌, ◌+◌, vec_len, vec_capacity};
-    ghost use Rattle.pt_waitq.specs.Waits.{Waits, waits_of, AllStand};
+    ghost use Rattle.pt_waitq.specs.Waits.{Waits, waits_of, AllQueued};
 
     ghost Value = { Waits };
 
     ghost view = { λ p. waits_of p.idle.items p.objects.items p.waiting.items };
 
     // Each client has room both to wait and to be idle, whichever of them it does.
-    ghost invariant = { λ p. AllStand p.objects.items p.waiting.items
+    ghost invariant = { λ p. AllQueued p.objects.items p.waiting.items
         × (vec_len p.idle + vec_len p.waiting ≤ vec_capacity p.idle)
         × (vec_len p.idle + vec_len p.waiting ≤ vec_capacity p.waiting) };
 }
@@ -55,10 +55,10 @@ impl<A: Allocator + Copy> PlainList<A> {
 }
 
 impl<A: Allocator + Copy> WaitList for PlainList<A> {
-    ghost use Rattle.pt_waitq.specs.Waits.{seen_in};
+    ghost use Rattle.pt_waitq.specs.Waits.{queues_view};
     ghost use Rattle.pt_waitq.specs.WaitLaws.{in_order, once, one_queue, admits, makes};
 
-    ghost seen = { seen_in };
+    ghost seen = { queues_view };
 
     ghost in_order = { in_order };
 
@@ -81,7 +81,7 @@ impl<A: Allocator + Copy> WaitList for PlainList<A> {
     }
 
     fn dismiss(&mut self, client: ClientId) {
-        changes::leave(&mut self.idle, &self.waiting, client);
+        changes::remove_client(&mut self.idle, &self.waiting, client);
     }
 
     fn make(&mut self, object: ObjectId) -> Result<(), Refusal> {

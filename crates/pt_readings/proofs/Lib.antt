@@ -1,5 +1,5 @@
--- Past: the histories of the first entries of a list
-pub mod Past
+-- Prefix: the histories of the first entries of a list
+pub mod Prefix
 -- Stood: the calls left waiting are in order of their places, and each entry leaves at most one
 pub mod Stood
 -- Opens: the open calls in order of their places, and what a Trip answers to each

@@ -6,14 +6,14 @@ use Rattle.std.specs.List.{list_any}
 use Rattle.std.proofs.lemmas.Bool.{eq-eqb, ne_eqb, cases_eq, cases_lt, false≢true}
 use Rattle.std.proofs.lemmas.Bool.{true_from_ne_false, false_from_ne_true}
 use Rattle.std.proofs.lemmas.Bool.Decides.{nat_tests}
-use Rattle.pt_types.specs.KeyOrder.{rank}
-use Rattle.pt_model.specs.Searches.{least, least_with, listed}
+use Rattle.pt_types.specs.KeyOrder.{kind_rank}
+use Rattle.pt_model.specs.Searches.{least, least_with, option_list}
 use Rattle.pt_model.specs.declared.waiting_call.WaitingCall.{WaitingCall}
 use Rattle.pt_model.specs.declared.waiting_call.Move.{Move}
-use Rattle.pt_model.specs.WaitingCall.{at_place, is_write}
+use Rattle.pt_model.specs.WaitingCall.{call_at_place, is_write_lock}
 use Rattle.pt_model.specs.Moves.{has_place, precedes_by, arrival_by}
-use Rattle.pt_model.specs.Found.{passes}
-use Rattle.pt_model.proofs.Ascending.{Ascends, at_place-before, at_place-place, any-at}
+use Rattle.pt_model.specs.Found.{is_some_and}
+use Rattle.pt_model.proofs.Ascending.{Ascends, call_at_place-before, call_at_place-place, any-at}
 
 -- an order in which two calls of different places are never alike
 pub record IsOrder (lt : WaitingCall → WaitingCall → Bool) : Type 0 where
@@ -25,7 +25,7 @@ pub record IsOrder (lt : WaitingCall → WaitingCall → Bool) : Type 0 where
 -- whether any call is before this one is decided by the least alone
 pub least-any :
     (lt : WaitingCall → WaitingCall → Bool) → IsOrder lt → (w : WaitingCall) (ws : List WaitingCall)
-    → list_any (λ v. lt v w) ws ≡ passes (λ v. lt v w) (least lt ws)
+    → list_any (λ v. lt v w) ws ≡ is_some_and (λ v. lt v w) (least lt ws)
 least-any lt o w [] = refl
 least-any lt o w (x ∷ xs) =
     ap (λ b. lt x w || b) (least-any lt o w xs) ∙ go (least lt xs)
@@ -49,45 +49,46 @@ least-any lt o w (x ∷ xs) =
         (λ n. false≢true (sym (o.asymmetric x w f) ∙ o.across y w x e n))
 
     pick : (y : WaitingCall) (b : Bool) → lt y x ≡ b
-        → (lt x w || lt y w) ≡ passes (λ v. lt v w) (cond b (Some y) (Some x))
+        → (lt x w || lt y w) ≡ is_some_and (λ v. lt v w) (cond b (Some y) (Some x))
     pick y true e = second (lt x w) (lt y w) (through y e)
     pick y false e = first (lt x w) (lt y w) (λ f. o.across y x w f e)
 
     go : (m : Option WaitingCall)
-        → (lt x w || passes (λ v. lt v w) m) ≡ passes (λ v. lt v w) (least_with lt x m)
+        → (lt x w || is_some_and (λ v. lt v w) m) ≡ is_some_and (λ v. lt v w) (least_with lt x m)
     go None = or_false (lt x w)
     go (Some y) = pick y (lt y x) refl
 
 -- the least is found at its place
 pub least-at :
     (lt : WaitingCall → WaitingCall → Bool) (n : ℕ) (ws : List WaitingCall) → Ascends n ws
-    → (m : WaitingCall) → least lt ws ≡ Some m → at_place m.place ws ≡ Some m
+    → (m : WaitingCall) → least lt ws ≡ Some m → call_at_place m.place ws ≡ Some m
 least-at lt n [] a m e = absurd cc
 least-at lt n (x ∷ xs) a m e =
     go (least lt xs) refl e (λ y k. least-at lt (suc x.place) xs a.1 y k)
   where
-    here : m ≡ x → at_place m.place (x ∷ xs) ≡ Some m
+    here : m ≡ x → call_at_place m.place (x ∷ xs) ≡ Some m
     here same = rw (eq-eqb x.place m.place (ap (λ u. u.place) (sym same))) (ap Some (sym same))
 
-    later : (y : WaitingCall) → at_place y.place xs ≡ Some y → at_place y.place (x ∷ xs) ≡ Some y
+    later : (y : WaitingCall) → call_at_place y.place xs ≡ Some y → call_at_place y.place (x ∷ xs)
+        ≡ Some y
     later y k =
         elim (cases_lt y.place (suc x.place)) [
           | inl early ↦
-              let none = at_place-before y.place (suc x.place) xs a.1 early in
+              let none = call_at_place-before y.place (suc x.place) xs a.1 early in
               absurd cc
           | inr late ↦ rw (ne_eqb x.place y.place (λ e. omega (arith, late))) k
         ]
 
-    pick : (y : WaitingCall) (b : Bool) → at_place y.place xs ≡ Some y
-        → cond b (Some y) (Some x) ≡ Some m → at_place m.place (x ∷ xs) ≡ Some m
+    pick : (y : WaitingCall) (b : Bool) → call_at_place y.place xs ≡ Some y
+        → cond b (Some y) (Some x) ≡ Some m → call_at_place m.place (x ∷ xs) ≡ Some m
     pick y true at k =
         let same : y ≡ m = cc in
-        subst (λ z. at_place z.place (x ∷ xs) ≡ Some z) same (later y at)
+        subst (λ z. call_at_place z.place (x ∷ xs) ≡ Some z) same (later y at)
     pick y false at k = let same : m ≡ x = cc in here same
 
     go : (q : Option WaitingCall) → least lt xs ≡ q → least_with lt x q ≡ Some m
-        → ((y : WaitingCall) → least lt xs ≡ Some y → at_place y.place xs ≡ Some y)
-        → at_place m.place (x ∷ xs) ≡ Some m
+        → ((y : WaitingCall) → least lt xs ≡ Some y → call_at_place y.place xs ≡ Some y)
+        → call_at_place m.place (x ∷ xs) ≡ Some m
     go None eq k ih = let same : m ≡ x = cc in here same
     go (Some y) eq k ih = pick y (lt y x) (ih y eq) k
 
@@ -109,21 +110,21 @@ least-some lt x xs e = go (least lt xs) e
 pub least-is :
     (lt : WaitingCall → WaitingCall → Bool) → IsOrder lt → (n : ℕ) (ws : List WaitingCall)
     → Ascends n ws
-    → (j : ℕ) → has_place (listed (least lt ws)) j
-    ≡ passes (λ w. not (list_any (λ v. lt v w) ws)) (at_place j ws)
-least-is lt o n ws a j = go (least lt ws) refl (at_place j ws) refl
+    → (j : ℕ) → has_place (option_list (least lt ws)) j
+    ≡ is_some_and (λ w. not (list_any (λ v. lt v w) ws)) (call_at_place j ws)
+least-is lt o n ws a j = go (least lt ws) refl (call_at_place j ws) refl
   where
     Goal : Option WaitingCall → Option WaitingCall → Type 0
-    Goal m p = has_place (listed m) j ≡ passes (λ w. not (list_any (λ v. lt v w) ws)) p
+    Goal m p = has_place (option_list m) j ≡ is_some_and (λ w. not (list_any (λ v. lt v w) ws)) p
 
-    empty : (vs : List WaitingCall) → least lt vs ≡ None → at_place j vs ≡ None
+    empty : (vs : List WaitingCall) → least lt vs ≡ None → call_at_place j vs ≡ None
     empty [] e = refl
     empty (x ∷ xs) e = absurd (least-some lt x xs e)
 
     before : (m w : WaitingCall) → least lt ws ≡ Some m → list_any (λ v. lt v w) ws ≡ lt m w
-    before m w e = least-any lt o w ws ∙ ap (passes (λ v. lt v w)) e
+    before m w e = least-any lt o w ws ∙ ap (is_some_and (λ v. lt v w)) e
 
-    other : (m w : WaitingCall) → least lt ws ≡ Some m → at_place j ws ≡ Some w
+    other : (m w : WaitingCall) → least lt ws ≡ Some m → call_at_place j ws ≡ Some w
         → (m.place ≡ j → ⊥) → lt m w ≡ true
     other m w em ew ne =
         true_from_ne_false (lt m w)
@@ -135,15 +136,15 @@ least-is lt o n ws a j = go (least lt ws) refl (at_place j ws) refl
         (sym (o.irreflexive m) ∙ sym (before m m em)
         ∙ any-at (λ v. lt v m) j ws (rw ew t)))
         in
-        ne (o.total m w n behind ∙ at_place-place j ws w ew))
+        ne (o.total m w n behind ∙ call_at_place-place j ws w ew))
 
-    both : (m w : WaitingCall) → least lt ws ≡ Some m → at_place j ws ≡ Some w
+    both : (m w : WaitingCall) → least lt ws ≡ Some m → call_at_place j ws ≡ Some w
         → (eqb m.place j || false) ≡ not (list_any (λ v. lt v w) ws)
     both m w em ew =
         elim (cases_eq m.place j) [
           | inl e ↦
               let at = least-at lt n ws a m em in
-              let same : m ≡ w = sameof m w (sym at ∙ ap (λ k. at_place k ws) e ∙ ew) in
+              let same : m ≡ w = sameof m w (sym at ∙ ap (λ k. call_at_place k ws) e ∙ ew) in
               rw (eq-eqb m.place j e)
               (ap not (sym (o.irreflexive w)) ∙ ap (λ z. not (lt z w)) (sym same)
               ∙ ap not (sym (before m w em)))
@@ -155,16 +156,17 @@ least-is lt o n ws a j = go (least lt ws) refl (at_place j ws) refl
         sameof : (x y : WaitingCall) → Some x ≡ Some y → x ≡ y
         sameof x y e = cc
 
-    none : (m : WaitingCall) → least lt ws ≡ Some m → at_place j ws ≡ None
+    none : (m : WaitingCall) → least lt ws ≡ Some m → call_at_place j ws ≡ None
         → (eqb m.place j || false) ≡ false
     none m em ew =
         let at = least-at lt n ws a m em in
-        rw (ne_eqb m.place j (λ e. absurdly (sym at ∙ ap (λ k. at_place k ws) e ∙ ew))) refl
+        rw (ne_eqb m.place j (λ e. absurdly (sym at ∙ ap (λ k. call_at_place k ws) e ∙ ew))) refl
       where
         absurdly : Some m ≡ None → ⊥
         absurdly e = cc
 
-    go : (m : Option WaitingCall) → least lt ws ≡ m → (p : Option WaitingCall) → at_place j ws ≡ p
+    go : (m : Option WaitingCall) → least lt ws ≡ m → (p : Option WaitingCall) → call_at_place j ws
+        ≡ p
         → Goal m p
     go None em p ep = subst (λ z. Goal None z) (sym (empty ws em) ∙ ep) refl
     go (Some m) em None ep = none m em ep
@@ -221,21 +223,22 @@ arrival-place (Some v) j = refl
 pub precedes-order : (moves : ℕ → Option Move) → IsOrder (precedes_by moves)
 precedes-order moves =
     record {
-      irreflexive = λ a. before-itself a.priority (rank (is_write a.role)) (at a).0 (at a).1;
+      irreflexive = λ a. before-itself a.priority (kind_rank (is_write_lock a.role)) (at a).0
+          (at a).1;
       asymmetric = λ a b h.
           before-asymmetric
-          a.priority (rank (is_write a.role)) (at a).0 (at a).1
-          b.priority (rank (is_write b.role)) (at b).0 (at b).1 h;
+          a.priority (kind_rank (is_write_lock a.role)) (at a).0 (at a).1
+          b.priority (kind_rank (is_write_lock b.role)) (at b).0 (at b).1 h;
       across = λ a b c h k.
           before-across
-          a.priority (rank (is_write a.role)) (at a).0 (at a).1
-          b.priority (rank (is_write b.role)) (at b).0 (at b).1
-          c.priority (rank (is_write c.role)) (at c).0 (at c).1 h k;
+          a.priority (kind_rank (is_write_lock a.role)) (at a).0 (at a).1
+          b.priority (kind_rank (is_write_lock b.role)) (at b).0 (at b).1
+          c.priority (kind_rank (is_write_lock c.role)) (at c).0 (at c).1 h k;
       total = λ a b h k.
           sym (arrival-place (moves a.place) a.place)
           ∙ before-total
-          a.priority (rank (is_write a.role)) (at a).0 (at a).1
-          b.priority (rank (is_write b.role)) (at b).0 (at b).1 h k
+          a.priority (kind_rank (is_write_lock a.role)) (at a).0 (at a).1
+          b.priority (kind_rank (is_write_lock b.role)) (at b).0 (at b).1 h k
           ∙ arrival-place (moves b.place) b.place;
     }
   where

@@ -4,32 +4,32 @@ use Rattle.std.proofs.Common.{Option, Some, None, is_none, refl, sym, ap, ◌∙
 use Rattle.std.specs.List.{list_any}
 use Rattle.pt_types.specs.declared.operations.ObjectClass.TheVariants.{Cond as CondClass}
 use Rattle.pt_model.specs.Histories.{History}
-use Rattle.pt_model.specs.Objects.{means}
+use Rattle.pt_model.specs.Objects.{names_object}
 use Rattle.pt_model.specs.declared.waiting_call.WaitingCall.{WaitingCall}
 use Rattle.pt_model.specs.declared.waiting_call.Move.{Move}
-use Rattle.pt_model.specs.WaitingCall.{at_place, is_wait}
+use Rattle.pt_model.specs.WaitingCall.{call_at_place, is_cond_wait}
 use Rattle.pt_model.specs.Answers.{open_calls}
-use Rattle.pt_model.specs.Moves.{has_place, waits_at, cond_waits, first_waiting, precedes_by}
-use Rattle.pt_model.specs.Found.{passes}
+use Rattle.pt_model.specs.Moves.{has_place, is_at_cond, cond_waits, least_cond_wait, precedes_by}
+use Rattle.pt_model.specs.Found.{is_some_and}
 use Rattle.pt_readings.specs.Found.{unmoved}
-use Rattle.pt_model.proofs.Ascending.{Ascends, Ascends-filter, at_place-filter, at_place-place}
+use Rattle.pt_model.proofs.Ascending.{Ascends, Ascends-filter, call_at_place-filter, call_at_place-place}
 use Rattle.pt_model.proofs.Ascending.{any-filter}
 use Rattle.pt_model.proofs.OpenOrder.{open-ascends}
-use Rattle.pt_readings.proofs.Opens.{passes-keep}
+use Rattle.pt_readings.proofs.Opens.{is_some_and-option_filter}
 use Rattle.pt_readings.proofs.Orders.{least-is, precedes-order}
 
 -- whether a wait came to the condition of this name
 abbrev pub came : History → List ℕ → WaitingCall → Bool
-came h n w = is_wait w.role && means h n CondClass w.object
+came h n w = is_cond_wait w.role && names_object h n CondClass w.object
 
 has_place-at :
     (j n : ℕ) (ws : List WaitingCall) → Ascends n ws
-    → has_place ws j ≡ passes (λ w. true) (at_place j ws)
+    → has_place ws j ≡ is_some_and (λ w. true) (call_at_place j ws)
 has_place-at j n [] a = refl
 has_place-at j n (w ∷ ws) a = go (eqb w.place j) (has_place-at j _ ws a.1)
   where
-    go : (b : Bool) → has_place ws j ≡ passes (λ w. true) (at_place j ws)
-        → (b || has_place ws j) ≡ passes (λ w. true) (cond b (Some w) (at_place j ws))
+    go : (b : Bool) → has_place ws j ≡ is_some_and (λ w. true) (call_at_place j ws)
+        → (b || has_place ws j) ≡ is_some_and (λ w. true) (cond b (Some w) (call_at_place j ws))
     go true ih = refl
     go false ih = ih
 
@@ -52,44 +52,46 @@ none false = refl
 -- a test of the wait at a place, if it still waits at the condition
 still :
     (h : History) (moves : ℕ → Option Move) (n : List ℕ) (j : ℕ) (t : WaitingCall → Bool)
-    → passes t (at_place j (cond_waits h moves n))
-    ≡ (is_none (moves j) && passes (λ w. came h n w && t w) (at_place j (open_calls h)))
+    → is_some_and t (call_at_place j (cond_waits h moves n))
+    ≡ (is_none (moves j) && is_some_and (λ w. came h n w && t w) (call_at_place j (open_calls h)))
 still h moves n j t =
-    ap (passes t) (at_place-filter (waits_at h moves n) j 0 (open_calls h) (open-ascends h))
-    ∙ passes-keep (waits_at h moves n) t (at_place j (open_calls h))
-    ∙ go (at_place j (open_calls h)) refl
+    ap (is_some_and t) (call_at_place-filter (is_at_cond h moves n) j 0 (open_calls h)
+    (open-ascends h))
+    ∙ is_some_and-option_filter (is_at_cond h moves n) t (call_at_place j (open_calls h))
+    ∙ go (call_at_place j (open_calls h)) refl
   where
-    go : (o : Option WaitingCall) → at_place j (open_calls h) ≡ o
-        → passes (λ w. t w && waits_at h moves n w) o
-        ≡ (is_none (moves j) && passes (λ w. came h n w && t w) o)
+    go : (o : Option WaitingCall) → call_at_place j (open_calls h) ≡ o
+        → is_some_and (λ w. t w && is_at_cond h moves n w) o
+        ≡ (is_none (moves j) && is_some_and (λ w. came h n w && t w) o)
     go None e = none (is_none (moves j))
     go (Some w) e =
-        ap (λ k. t w && (is_wait w.role && (is_none (moves k) && means h n CondClass w.object)))
-        (at_place-place j (open_calls h) w e)
-        ∙ swap (is_wait w.role) (is_none (moves j)) (means h n CondClass w.object) (t w)
+        ap (λ k. t w && (is_cond_wait w.role && (is_none (moves k)
+        && names_object h n CondClass w.object)))
+        (call_at_place-place j (open_calls h) w e)
+        ∙ swap (is_cond_wait w.role) (is_none (moves j)) (names_object h n CondClass w.object) (t w)
 
 and_true : (b : Bool) → (b && true) ≡ b
 and_true true = refl
 and_true false = refl
 
-passes-same :
+is_some_and-same :
     (p q : WaitingCall → Bool) → ((w : WaitingCall) → p w ≡ q w) → (o : Option WaitingCall)
-    → passes p o ≡ passes q o
-passes-same p q f None = refl
-passes-same p q f (Some w) = f w
+    → is_some_and p o ≡ is_some_and q o
+is_some_and-same p q f None = refl
+is_some_and-same p q f (Some w) = f w
 
 -- a broadcast moves the waits that still wait at the condition
 pub waiting_is :
     (h : History) (moves : ℕ → Option Move) (n : List ℕ) (j : ℕ)
     → has_place (cond_waits h moves n) j
-    ≡ (is_none (moves j) && passes (came h n) (at_place j (open_calls h)))
+    ≡ (is_none (moves j) && is_some_and (came h n) (call_at_place j (open_calls h)))
 waiting_is h moves n j =
     has_place-at j 0 (cond_waits h moves n)
-    (Ascends-filter (waits_at h moves n) 0 (open_calls h) (open-ascends h))
+    (Ascends-filter (is_at_cond h moves n) 0 (open_calls h) (open-ascends h))
     ∙ still h moves n j (λ w. true)
     ∙ ap (λ b. is_none (moves j) && b)
-    (passes-same (λ w. came h n w && true) (came h n) (λ w. and_true (came h n w))
-    (at_place j (open_calls h)))
+    (is_some_and-same (λ w. came h n w && true) (came h n) (λ w. and_true (came h n w))
+    (call_at_place j (open_calls h)))
 
 any-same :
     (p q : WaitingCall → Bool) → ((w : WaitingCall) → p w ≡ q w) → (ws : List WaitingCall)
@@ -103,14 +105,14 @@ pub as_they_came :
     → list_any (λ v. precedes_by moves v w) (cond_waits h moves n)
     ≡ list_any (λ v. precedes_by unmoved v w) (cond_waits h moves n)
 as_they_came h moves n w e =
-    any-filter (λ v. precedes_by moves v w) (waits_at h moves n) (open_calls h)
-    ∙ any-same (λ v. waits_at h moves n v && precedes_by moves v w)
-    (λ v. waits_at h moves n v && precedes_by unmoved v w) one (open_calls h)
-    ∙ sym (any-filter (λ v. precedes_by unmoved v w) (waits_at h moves n) (open_calls h))
+    any-filter (λ v. precedes_by moves v w) (is_at_cond h moves n) (open_calls h)
+    ∙ any-same (λ v. is_at_cond h moves n v && precedes_by moves v w)
+    (λ v. is_at_cond h moves n v && precedes_by unmoved v w) one (open_calls h)
+    ∙ sym (any-filter (λ v. precedes_by unmoved v w) (is_at_cond h moves n) (open_calls h))
   where
     one : (v : WaitingCall)
-        → (waits_at h moves n v && precedes_by moves v w)
-        ≡ (waits_at h moves n v && precedes_by unmoved v w)
+        → (is_at_cond h moves n v && precedes_by moves v w)
+        ≡ (is_at_cond h moves n v && precedes_by unmoved v w)
     one v = go (moves v.place) refl
       where
         off : (x y z : Bool) → ((x && false) && y) ≡ ((x && false) && z)
@@ -118,47 +120,47 @@ as_they_came h moves n w e =
         off false y z = refl
 
         go : (m : Option Move) → moves v.place ≡ m
-            → (waits_at h moves n v && precedes_by moves v w)
-            ≡ (waits_at h moves n v && precedes_by unmoved v w)
+            → (is_at_cond h moves n v && precedes_by moves v w)
+            ≡ (is_at_cond h moves n v && precedes_by unmoved v w)
         go None k = rw (k, e) refl
-        go (Some m) k = rw (k) (off (is_wait v.role) _ _)
+        go (Some m) k = rw (k) (off (is_cond_wait v.role) _ _)
 
 -- a signal moves the first of them
 pub first_is :
     (h : History) (moves : ℕ → Option Move) (n : List ℕ) (j : ℕ)
-    → has_place (first_waiting h moves n) j
+    → has_place (least_cond_wait h moves n) j
     ≡ (is_none (moves j)
-    && passes
+    && is_some_and
     (λ w. came h n w && not (list_any (λ v. precedes_by unmoved v w) (cond_waits h moves n)))
-    (at_place j (open_calls h)))
+    (call_at_place j (open_calls h)))
 first_is h moves n j =
     least-is (precedes_by moves) (precedes-order moves) 0 (cond_waits h moves n)
-    (Ascends-filter (waits_at h moves n) 0 (open_calls h) (open-ascends h)) j
+    (Ascends-filter (is_at_cond h moves n) 0 (open_calls h) (open-ascends h)) j
     ∙ still h moves n j (λ w. not (list_any (λ v. precedes_by moves v w) (cond_waits h moves n)))
     ∙ go (moves j) refl
   where
     go : (m : Option Move) → moves j ≡ m
         → (is_none m
-        && passes
+        && is_some_and
         (λ w. came h n w && not (list_any (λ v. precedes_by moves v w) (cond_waits h moves n)))
-        (at_place j (open_calls h)))
+        (call_at_place j (open_calls h)))
         ≡ (is_none m
-        && passes
+        && is_some_and
         (λ w. came h n w && not (list_any (λ v. precedes_by unmoved v w) (cond_waits h moves n)))
-        (at_place j (open_calls h)))
+        (call_at_place j (open_calls h)))
     go (Some v) k = refl
-    go None k = pick (at_place j (open_calls h)) refl
+    go None k = pick (call_at_place j (open_calls h)) refl
       where
-        pick : (o : Option WaitingCall) → at_place j (open_calls h) ≡ o
-            → passes
+        pick : (o : Option WaitingCall) → call_at_place j (open_calls h) ≡ o
+            → is_some_and
             (λ w.
             came h n w && not (list_any (λ v. precedes_by moves v w) (cond_waits h moves n)))
             o
-            ≡ passes
+            ≡ is_some_and
             (λ w.
             came h n w && not (list_any (λ v. precedes_by unmoved v w) (cond_waits h moves n)))
             o
         pick None e = refl
         pick (Some w) e =
             ap (λ b. came h n w && not b)
-            (as_they_came h moves n w (ap moves (at_place-place j (open_calls h) w e) ∙ k))
+            (as_they_came h moves n w (ap moves (call_at_place-place j (open_calls h) w e) ∙ k))

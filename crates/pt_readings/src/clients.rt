@@ -1,17 +1,17 @@
 ghost use Rattle.std.specs.Prelude.{◌≡◌, ◌≤◌, ◌<◌, ◌-◌, ◌^◌, length};
 ghost use Rattle.pt_model.specs.Histories.{history};
 ghost use Rattle.pt_types.specs.Operations.{same_clock};
-ghost use Rattle.pt_model.specs.Clients.{client as client_in, client_by as client_after};
-ghost use Rattle.pt_model.specs.Clients.{is_alive as is_alive_in, living as living_in};
-ghost use Rattle.pt_model.specs.Clients.{living_by as living_after, clock as clock_in};
-ghost use Rattle.pt_model.specs.Clients.{is_due as is_due_at};
+ghost use Rattle.pt_model.specs.Clients.{client_priority, client_priority_by};
+ghost use Rattle.pt_model.specs.Clients.{is_alive, living_count};
+ghost use Rattle.pt_model.specs.Clients.{living_count_by, clock as clock_in};
+ghost use Rattle.pt_model.specs.Clients.{is_due};
 
 use pt_model::Entry;
 use pt_types::{ClientId, Clock, Priority};
 
 /// Returns a client's priority after an entry; `None` once the client has died.
-pub fn client_by(entry: &Entry, before: Option<Priority>, c: ClientId) -> Option<Priority>
-    ensures { result ≡ client_after entry.now before c }
+pub fn client_priority_by(entry: &Entry, before: Option<Priority>, c: ClientId) -> Option<Priority>
+    ensures { result ≡ client_priority_by entry.now before c }
 {
     match entry {
         Entry::Join(d, priority) if *d == c => Some(*priority),
@@ -21,28 +21,28 @@ pub fn client_by(entry: &Entry, before: Option<Priority>, c: ClientId) -> Option
 }
 
 /// Returns the priority with which a client joined, while it lives.  [XSH 2.8.4]
-#[tactic(auto, using(crate::proofs::Past::history_more))]
+#[tactic(auto, using(crate::proofs::Prefix::history_more))]
 pub fn client(entries: &[Entry], c: ClientId) -> Option<Priority>
-    ensures { result ≡ client_in (history entries.now) c }
+    ensures { result ≡ client_priority (history entries.now) c }
 {
     let mut found = None;
     for entry in entries {
-        found = client_by(entry, found, c);
+        found = client_priority_by(entry, found, c);
     }
     found
 }
 
 /// Returns true if a client lives.
 pub fn is_alive(entries: &[Entry], c: ClientId) -> bool
-    ensures { result ≡ is_alive_in (history entries.now) c }
+    ensures { result ≡ is_alive (history entries.now) c }
 {
     client(entries, c).is_some()
 }
 
 /// Returns the number of living clients after an entry.
-pub fn living_by(entry: &Entry, before: u64) -> u64
+pub fn living_count_by(entry: &Entry, before: u64) -> u64
     requires { before < 2 ^ 64 - 1 }
-    ensures { result ≡ living_after entry.now before }
+    ensures { result ≡ living_count_by entry.now before }
 {
     match entry {
         Entry::Join(..) => before + 1,
@@ -52,14 +52,14 @@ pub fn living_by(entry: &Entry, before: u64) -> u64
 }
 
 /// Returns the number of living clients.
-#[tactic(auto, using(crate::proofs::Past::history_more))]
+#[tactic(auto, using(crate::proofs::Prefix::history_more))]
 pub fn living(entries: &[Entry]) -> u64
-    ensures value { result ≡ living_in (history entries.now) }
-    ensures small { result ≤ length entries.now }
+    ensures value { result ≡ living_count (history entries.now) }
+    ensures within { result ≤ length entries.now }
 {
     let mut count = 0;
     for entry in entries {
-        count = living_by(entry, count);
+        count = living_count_by(entry, count);
     }
     count
 }
@@ -76,7 +76,7 @@ pub fn is_same_clock(one: Clock, other: Clock) -> bool
 
 /// Returns the greatest moment of a clock so far, in nanoseconds, or `None` before its first
 /// moment.
-#[tactic(auto, using(crate::proofs::Past::history_more))]
+#[tactic(auto, using(crate::proofs::Prefix::history_more))]
 pub fn clock(entries: &[Entry], which: Clock) -> Option<u64>
     ensures { result ≡ clock_in (history entries.now) which }
 {
@@ -98,7 +98,7 @@ pub fn clock(entries: &[Entry], which: Clock) -> Option<u64>
 /// Returns true if a deadline is due: the clock equals or exceeds it.
 /// [XSH pthread_mutex_timedlock]
 pub fn is_due(clock: Option<u64>, deadline: Option<u64>) -> bool
-    ensures { result ≡ is_due_at clock deadline }
+    ensures { result ≡ is_due clock deadline }
 {
     match (clock, deadline) {
         (Some(now), Some(deadline)) => deadline <= now,

@@ -2,21 +2,21 @@ ghost use Rattle.std.specs.Prelude.{◌≡◌, ◌<◌, ◌&&◌, ◌==◌};
 ghost use Rattle.std.specs.List.{list_any};
 ghost use Rattle.pt_types.specs.declared.operations.ObjectClass.TheVariants.{Cond as CondClass};
 ghost use Rattle.pt_model.specs.Histories.{history};
-ghost use Rattle.pt_model.specs.Objects.{means as means_in};
-ghost use Rattle.pt_model.specs.WaitingCall.{at_place, is_wait as is_wait_role};
+ghost use Rattle.pt_model.specs.Objects.{names_object};
+ghost use Rattle.pt_model.specs.WaitingCall.{call_at_place, is_cond_wait};
 ghost use Rattle.pt_model.specs.Answers.{open_calls};
-ghost use Rattle.pt_model.specs.Moves.{moved as moved_in, precedes_by, waits_at, cond_waits};
-ghost use Rattle.pt_model.specs.Moves.{first_waiting, has_place, cause_by as cause};
-ghost use Rattle.pt_model.specs.Moves.{move_or as move_after, is_moved as is_moved_in};
-ghost use Rattle.pt_model.specs.Moves.{at_object as at_object_in, precedes as precedes_in};
-ghost use Rattle.pt_model.specs.Moves.{is_least as is_least_in};
-ghost use Rattle.pt_model.specs.Found.{passes};
+ghost use Rattle.pt_model.specs.Moves.{wait_move, precedes_by, is_at_cond, cond_waits};
+ghost use Rattle.pt_model.specs.Moves.{least_cond_wait, has_place, cause_by};
+ghost use Rattle.pt_model.specs.Moves.{move_or, is_moved};
+ghost use Rattle.pt_model.specs.Moves.{wait_object, precedes};
+ghost use Rattle.pt_model.specs.Moves.{is_least};
+ghost use Rattle.pt_model.specs.Found.{is_some_and};
 ghost use Rattle.pt_readings.specs.Found.{unmoved};
 
 use crate::answers::{is_open, open_at};
 use crate::objects::means;
 use crate::waiting::{is_wait_at, waiting_call_at};
-use pt_model::waiting_call::{Move, Role, WaitingCall, is_wait, key_with};
+use pt_model::waiting_call::{Move, Role, WaitingCall, is_cond_wait, key_with};
 use pt_model::{Cause, Entry};
 use pt_types::key_order::goes_before;
 use pt_types::operations::{ObjectClass, Operation, operation_of};
@@ -27,13 +27,13 @@ use pt_types::{Name, ObjectId, Outcome};
 #[tactic(auto, using(crate::proofs::Opens::passes_open))]
 pub fn came_to(entries: &[Entry], n: &Name, i: u64) -> bool
     ensures { result
-        ≡ passes
-        (λ w. is_wait_role w.role && means_in (history entries.now) n.now CondClass w.object)
-        (at_place i (open_calls (history entries.now))) }
+        ≡ is_some_and
+        (λ w. is_cond_wait w.role && names_object (history entries.now) n.now CondClass w.object)
+        (call_at_place i (open_calls (history entries.now))) }
 {
     match waiting_call_at(entries, i) {
         Some(w) => {
-            is_wait(w.role)
+            is_cond_wait(w.role)
                 && means(entries, n, ObjectClass::Cond, w.object)
                 && is_open(entries, &w)
         }
@@ -47,15 +47,15 @@ pub fn came_to(entries: &[Entry], n: &Name, i: u64) -> bool
 #[tactic(auto, using(crate::proofs::Opens::passes_open))]
 pub fn waits_before(entries: &[Entry], n: &Name, w: &WaitingCall, i: u64) -> bool
     ensures { result
-        ≡ passes
-        (λ v. waits_at (history entries.now) (moved_in (history entries.now)) n.now v &&
+        ≡ is_some_and
+        (λ v. is_at_cond (history entries.now) (wait_move (history entries.now)) n.now v &&
         precedes_by unmoved v w.now)
-        (at_place i (open_calls (history entries.now))) }
+        (call_at_place i (open_calls (history entries.now))) }
 {
     let Some(v) = waiting_call_at(entries, i) else {
         return false;
     };
-    if !is_wait(v.role) || !goes_before(key_with(&v, None), key_with(w, None)) {
+    if !is_cond_wait(v.role) || !goes_before(key_with(&v, None), key_with(w, None)) {
         return false;
     }
     if !means(entries, n, ObjectClass::Cond, v.object) {
@@ -69,7 +69,7 @@ pub fn waits_before(entries: &[Entry], n: &Name, w: &WaitingCall, i: u64) -> boo
 pub fn is_preceded(entries: &[Entry], n: &Name, w: &WaitingCall) -> bool
     ensures { result
         ≡ list_any (λ v. precedes_by unmoved v w.now)
-        (cond_waits (history entries.now) (moved_in (history entries.now)) n.now) }
+        (cond_waits (history entries.now) (wait_move (history entries.now)) n.now) }
 {
     for i in 0..entries.len() {
         if waits_before(entries, n, w, i as u64) {
@@ -84,9 +84,9 @@ pub fn is_preceded(entries: &[Entry], n: &Name, w: &WaitingCall) -> bool
 #[cycle(moves)]
 #[tactic(auto, using(crate::proofs::Waits::first_is))]
 pub fn is_first_waiting(entries: &[Entry], n: &Name, before: Option<Move>, j: u64) -> bool
-    requires { before ≡ moved_in (history entries.now) j }
+    requires { before ≡ wait_move (history entries.now) j }
     ensures { result
-        ≡ has_place (first_waiting (history entries.now) (moved_in (history entries.now)) n.now)
+        ≡ has_place (least_cond_wait (history entries.now) (wait_move (history entries.now)) n.now)
         j }
 {
     if before.is_some() || !came_to(entries, n, j) {
@@ -103,8 +103,8 @@ pub fn is_first_waiting(entries: &[Entry], n: &Name, before: Option<Move>, j: u6
 #[cycle(moves)]
 #[tactic(auto, using(crate::proofs::Waits::waiting_is))]
 pub fn cause_by(entries: &[Entry], entry: &Entry, before: Option<Move>, j: u64) -> Option<Cause>
-    requires { before ≡ moved_in (history entries.now) j }
-    ensures { result ≡ cause (history entries.now) (moved_in (history entries.now)) entry.now j }
+    requires { before ≡ wait_move (history entries.now) j }
+    ensures { result ≡ cause_by (history entries.now) (wait_move (history entries.now)) entry.now j }
 {
     match entry {
         Entry::Expire(i) if *i == j && is_wait_at(entries, j) => Some(Cause::Expired),
@@ -123,7 +123,7 @@ pub fn cause_by(entries: &[Entry], entry: &Entry, before: Option<Move>, j: u64) 
 
 /// Returns a move at this place if there is a cause, or else the move before.
 pub fn move_or(at: u64, cause: Option<Cause>, before: Option<Move>) -> Option<Move>
-    ensures { result ≡ move_after at cause before }
+    ensures { result ≡ move_or at cause before }
 {
     match cause {
         Some(cause) => Some(Move { at, cause }),
@@ -133,9 +133,9 @@ pub fn move_or(at: u64, cause: Option<Cause>, before: Option<Move>) -> Option<Mo
 
 /// Returns the move of the wait at a place.  [XSH pthread_cond_broadcast]
 #[cycle(moves)]
-#[tactic(auto, using(crate::proofs::Past::history_more, crate::proofs::Past::place_below))]
+#[tactic(auto, using(crate::proofs::Prefix::history_more, crate::proofs::Prefix::place_below))]
 pub fn moved(entries: &[Entry], j: u64) -> Option<Move>
-    ensures { result ≡ moved_in (history entries.now) j }
+    ensures { result ≡ wait_move (history entries.now) j }
 {
     let mut found = None;
     for (i, entry) in entries.iter().enumerate() {
@@ -146,14 +146,14 @@ pub fn moved(entries: &[Entry], j: u64) -> Option<Move>
 
 /// Returns true if a call is a wait that was moved.
 pub fn is_moved(entries: &[Entry], w: &WaitingCall) -> bool
-    ensures { result ≡ is_moved_in (history entries.now) w.now }
+    ensures { result ≡ is_moved (history entries.now) w.now }
 {
     moved(entries, w.place).is_some()
 }
 
 /// Returns the object at which a call waits.  [XSH pthread_cond_broadcast]
-pub fn at_object(entries: &[Entry], w: &WaitingCall) -> ObjectId
-    ensures { result ≡ at_object_in (history entries.now) w.now }
+pub fn wait_object(entries: &[Entry], w: &WaitingCall) -> ObjectId
+    ensures { result ≡ wait_object (history entries.now) w.now }
 {
     match w.role {
         Role::ForCond(m) if moved(entries, w.place).is_some() => m,
@@ -163,7 +163,7 @@ pub fn at_object(entries: &[Entry], w: &WaitingCall) -> ObjectId
 
 /// Returns true if a call goes before another.  [XSH 2.8.4, pthread_rwlock_unlock]
 pub fn precedes(entries: &[Entry], v: &WaitingCall, w: &WaitingCall) -> bool
-    ensures { result ≡ precedes_in (history entries.now) v.now w.now }
+    ensures { result ≡ precedes (history entries.now) v.now w.now }
 {
     let one = key_with(v, moved(entries, v.place));
     let other = key_with(w, moved(entries, w.place));
@@ -174,22 +174,22 @@ pub fn precedes(entries: &[Entry], v: &WaitingCall, w: &WaitingCall) -> bool
 /// [XSH 2.8.4]
 pub fn is_ahead(entries: &[Entry], o: ObjectId, w: &WaitingCall, i: u64) -> bool
     ensures { result
-        ≡ passes
-        (λ v. (at_object_in (history entries.now) v == o) && precedes_in
+        ≡ is_some_and
+        (λ v. (wait_object (history entries.now) v == o) && precedes
         (history entries.now) v w.now)
-        (at_place i (open_calls (history entries.now))) }
+        (call_at_place i (open_calls (history entries.now))) }
 {
     match open_at(entries, i) {
-        Some(v) => at_object(entries, &v) == o && precedes(entries, &v, w),
+        Some(v) => wait_object(entries, &v) == o && precedes(entries, &v, w),
         None => false,
     }
 }
 
 /// Returns true if no call that waits at the same object goes before this one.  [XSH 2.8.4]
 pub fn is_least(entries: &[Entry], w: &WaitingCall) -> bool
-    ensures { result ≡ is_least_in (history entries.now) w.now }
+    ensures { result ≡ is_least (history entries.now) w.now }
 {
-    let o = at_object(entries, w);
+    let o = wait_object(entries, w);
     for i in 0..entries.len() {
         if is_ahead(entries, o, w, i as u64) {
             return false;

@@ -1,17 +1,17 @@
 ghost use Rattle.std.specs.Prelude.{◌≡◌, ◌≤◌, ◌<◌, ◌-◌, ◌^◌, length};
-ghost use Rattle.pt_types.specs.MutexTable.{after_yield as yielded, after_consistent as restored};
-ghost use Rattle.pt_types.specs.MutexTable.{after_release as released};
+ghost use Rattle.pt_types.specs.MutexTable.{after_yield, after_consistent};
+ghost use Rattle.pt_types.specs.MutexTable.{after_release};
 ghost use Rattle.pt_types.specs.Operations.{operation};
 ghost use Rattle.pt_model.specs.Histories.{history};
-ghost use Rattle.pt_model.specs.WaitingCall.{at_place, stood};
-ghost use Rattle.pt_model.specs.Mutexes.{relocks as relocks_in, unlocks as unlocks_in};
-ghost use Rattle.pt_model.specs.Mutexes.{unlocks_to_wait as unlocks_to_wait_in};
-ghost use Rattle.pt_model.specs.Mutexes.{restores as restores_in, is_for as is_for_it};
-ghost use Rattle.pt_model.specs.Mutexes.{gained as gained_in, gained_by as gained_after};
-ghost use Rattle.pt_model.specs.Mutexes.{lost as lost_in, lost_by as lost_after, count as count_in};
-ghost use Rattle.pt_model.specs.Mutexes.{owner as owner_in, consistency as consistency_in};
-ghost use Rattle.pt_model.specs.Mutexes.{consistency_by as consistency_after};
-ghost use Rattle.pt_model.specs.Mutexes.{mutex_view as view_in};
+ghost use Rattle.pt_model.specs.WaitingCall.{call_at_place, waiting_calls};
+ghost use Rattle.pt_model.specs.Mutexes.{relocks, unlocks};
+ghost use Rattle.pt_model.specs.Mutexes.{unlocks_to_wait};
+ghost use Rattle.pt_model.specs.Mutexes.{makes_consistent, is_for_mutex};
+ghost use Rattle.pt_model.specs.Mutexes.{lock_count, lock_count_by};
+ghost use Rattle.pt_model.specs.Mutexes.{unlock_count, unlock_count_by, mutex_count};
+ghost use Rattle.pt_model.specs.Mutexes.{owner, consistency as consistency_in};
+ghost use Rattle.pt_model.specs.Mutexes.{consistency_by};
+ghost use Rattle.pt_model.specs.Mutexes.{mutex_view};
 
 use crate::objects::{is_robust, kind_of, means, mutex_kind};
 use crate::waiting::waiting_call_at;
@@ -24,7 +24,7 @@ use pt_types::{Call, ClientId, Consistency, ObjectId, Outcome};
 /// Returns true if a call that was answered 0 counts as a lock.
 /// [XSH pthread_mutex_lock, RECURSIVE]
 pub fn relocks(entries: &[Entry], call: &Call, m: ObjectId) -> bool
-    ensures { result ≡ relocks_in (history entries.now) (operation call.now) m }
+    ensures { result ≡ relocks (history entries.now) (operation call.now) m }
 {
     match operation_of(call) {
         Operation::Acquires(n, LockKind::MutexLock, _) => means(entries, n, ObjectClass::Mutex, m),
@@ -35,7 +35,7 @@ pub fn relocks(entries: &[Entry], call: &Call, m: ObjectId) -> bool
 /// Returns true if a call that was answered 0 gives back a lock on the mutex.
 /// [XSH pthread_mutex_unlock]
 pub fn unlocks(entries: &[Entry], call: &Call, m: ObjectId) -> bool
-    ensures { result ≡ unlocks_in (history entries.now) (operation call.now) m }
+    ensures { result ≡ unlocks (history entries.now) (operation call.now) m }
 {
     match operation_of(call) {
         Operation::Unlocks(n) => means(entries, n, ObjectClass::Mutex, m),
@@ -46,10 +46,10 @@ pub fn unlocks(entries: &[Entry], call: &Call, m: ObjectId) -> bool
 /// Returns true if a call that was left waiting gives back a lock on the mutex.
 /// [XSH pthread_cond_wait]
 pub fn unlocks_to_wait(entries: &[Entry], call: &Call, m: ObjectId) -> bool
-    ensures { result ≡ unlocks_to_wait_in (history entries.now) (operation call.now) m }
+    ensures { result ≡ unlocks_to_wait (history entries.now) (operation call.now) m }
 {
     match operation_of(call) {
-        Operation::Awaits(_, n, _) => means(entries, n, ObjectClass::Mutex, m),
+        Operation::CondWaits(_, n, _) => means(entries, n, ObjectClass::Mutex, m),
         _ => false,
     }
 }
@@ -57,7 +57,7 @@ pub fn unlocks_to_wait(entries: &[Entry], call: &Call, m: ObjectId) -> bool
 /// Returns true if a call that was answered 0 makes the mutex consistent.
 /// [XSH pthread_mutex_consistent]
 pub fn restores(entries: &[Entry], call: &Call, m: ObjectId) -> bool
-    ensures { result ≡ restores_in (history entries.now) (operation call.now) m }
+    ensures { result ≡ makes_consistent (history entries.now) (operation call.now) m }
 {
     match operation_of(call) {
         Operation::Restores(n) => means(entries, n, ObjectClass::Mutex, m),
@@ -68,7 +68,7 @@ pub fn restores(entries: &[Entry], call: &Call, m: ObjectId) -> bool
 /// Returns true if the call at a place is the client's, and is a lock of this mutex or a wait with
 /// it.  [XSH pthread_mutex_lock]
 pub fn is_for(entries: &[Entry], j: u64, m: ObjectId, c: ClientId) -> bool
-    ensures { result ≡ is_for_it (at_place j (stood (history entries.now))) m c }
+    ensures { result ≡ is_for_mutex (call_at_place j (waiting_calls (history entries.now))) m c }
 {
     match waiting_call_at(entries, j) {
         Some(w) => w.client == c && mutex_of(&w) == Some(m),
@@ -78,9 +78,9 @@ pub fn is_for(entries: &[Entry], j: u64, m: ObjectId, c: ClientId) -> bool
 
 /// Returns the number of a client's locks after an entry. A Yield resets it to 0.
 /// [XSH pthread_mutex_lock]
-pub fn gained_by(entries: &[Entry], entry: &Entry, m: ObjectId, c: ClientId, before: u64) -> u64
+pub fn lock_count_by(entries: &[Entry], entry: &Entry, m: ObjectId, c: ClientId, before: u64) -> u64
     requires { before < 2 ^ 64 - 1 }
-    ensures { result ≡ gained_after (history entries.now) entry.now m c before }
+    ensures { result ≡ lock_count_by (history entries.now) entry.now m c before }
 {
     match entry {
         Entry::Call(d, call, Some(Outcome::Done)) if *d == c && relocks(entries, call, m) => {
@@ -93,23 +93,29 @@ pub fn gained_by(entries: &[Entry], entry: &Entry, m: ObjectId, c: ClientId, bef
 }
 
 /// Returns how often a client has locked a mutex since its last Yield.  [XSH pthread_mutex_lock]
-#[tactic(auto, using(crate::proofs::Past::history_more))]
-pub fn gained(entries: &[Entry], m: ObjectId, c: ClientId) -> u64
-    ensures value { result ≡ gained_in (history entries.now) m c }
-    ensures small { result ≤ length entries.now }
+#[tactic(auto, using(crate::proofs::Prefix::history_more))]
+pub fn lock_count(entries: &[Entry], m: ObjectId, c: ClientId) -> u64
+    ensures value { result ≡ lock_count (history entries.now) m c }
+    ensures within { result ≤ length entries.now }
 {
     let mut count = 0;
     for (i, entry) in entries.iter().enumerate() {
-        count = gained_by(&entries[..i], entry, m, c, count);
+        count = lock_count_by(&entries[..i], entry, m, c, count);
     }
     count
 }
 
 /// Returns the number of a client's unlocks after an entry. A Yield resets it to 0.
 /// [XSH pthread_mutex_unlock, pthread_cond_wait]
-pub fn lost_by(entries: &[Entry], entry: &Entry, m: ObjectId, c: ClientId, before: u64) -> u64
+pub fn unlock_count_by(
+    entries: &[Entry],
+    entry: &Entry,
+    m: ObjectId,
+    c: ClientId,
+    before: u64,
+) -> u64
     requires { before < 2 ^ 64 - 1 }
-    ensures { result ≡ lost_after (history entries.now) entry.now m c before }
+    ensures { result ≡ unlock_count_by (history entries.now) entry.now m c before }
 {
     match entry {
         Entry::Call(d, call, None) if *d == c && unlocks_to_wait(entries, call, m) => before + 1,
@@ -123,28 +129,28 @@ pub fn lost_by(entries: &[Entry], entry: &Entry, m: ObjectId, c: ClientId, befor
 
 /// Returns how often a client has unlocked a mutex since its last Yield.
 /// [XSH pthread_mutex_unlock, pthread_cond_wait]
-#[tactic(auto, using(crate::proofs::Past::history_more))]
-pub fn lost(entries: &[Entry], m: ObjectId, c: ClientId) -> u64
-    ensures value { result ≡ lost_in (history entries.now) m c }
-    ensures small { result ≤ length entries.now }
+#[tactic(auto, using(crate::proofs::Prefix::history_more))]
+pub fn unlock_count(entries: &[Entry], m: ObjectId, c: ClientId) -> u64
+    ensures value { result ≡ unlock_count (history entries.now) m c }
+    ensures within { result ≤ length entries.now }
 {
     let mut count = 0;
     for (i, entry) in entries.iter().enumerate() {
-        count = lost_by(&entries[..i], entry, m, c, count);
+        count = unlock_count_by(&entries[..i], entry, m, c, count);
     }
     count
 }
 
 /// Returns how often a client holds a mutex.  [XSH pthread_mutex_lock, pthread_cond_timedwait]
 pub fn count(entries: &[Entry], m: ObjectId, c: ClientId) -> u64
-    ensures { result ≡ count_in (history entries.now) m c }
+    ensures { result ≡ mutex_count (history entries.now) m c }
 {
-    gained(entries, m, c).saturating_sub(lost(entries, m, c))
+    lock_count(entries, m, c).saturating_sub(unlock_count(entries, m, c))
 }
 
 /// Returns the client, dead or alive, that holds the mutex.  [XSH pthread_mutex_lock]
 pub fn owner(entries: &[Entry], m: ObjectId) -> Option<ClientId>
-    ensures { result ≡ owner_in (history entries.now) m }
+    ensures { result ≡ owner (history entries.now) m }
 {
     for i in 0..entries.len() {
         let c = ClientId(i as u64);
@@ -158,7 +164,7 @@ pub fn owner(entries: &[Entry], m: ObjectId) -> Option<ClientId>
 // Returns a mutex's consistency after the mutex is taken from its dead owner.
 // [XSH pthread_mutex_lock, EOWNERDEAD]
 fn after_yield(consistency: Consistency) -> Consistency
-    ensures { result ≡ yielded consistency }
+    ensures { result ≡ after_yield consistency }
 {
     match consistency {
         Consistency::NotRecoverable => Consistency::NotRecoverable,
@@ -168,7 +174,7 @@ fn after_yield(consistency: Consistency) -> Consistency
 
 // Returns a mutex's consistency after `consistent`.  [XSH pthread_mutex_consistent]
 fn after_consistent(consistency: Consistency) -> Consistency
-    ensures { result ≡ restored consistency }
+    ensures { result ≡ after_consistent consistency }
 {
     match consistency {
         Consistency::NotRecoverable => Consistency::NotRecoverable,
@@ -178,7 +184,7 @@ fn after_consistent(consistency: Consistency) -> Consistency
 
 // Returns a mutex's consistency once its owner's count is 0.  [XSH pthread_mutex_unlock]
 fn after_release(consistency: Consistency) -> Consistency
-    ensures { result ≡ released consistency }
+    ensures { result ≡ after_release consistency }
 {
     match consistency {
         Consistency::Inconsistent => Consistency::NotRecoverable,
@@ -193,7 +199,7 @@ pub fn consistency_by(
     m: ObjectId,
     before: Consistency,
 ) -> Consistency
-    ensures { result ≡ consistency_after (history entries.now) entry.now m before }
+    ensures { result ≡ consistency_by (history entries.now) entry.now m before }
 {
     match entry {
         Entry::Call(d, call, None)
@@ -211,7 +217,7 @@ pub fn consistency_by(
 }
 
 /// Returns the consistency of a mutex.  [XSH pthread_mutex_lock, pthread_mutex_consistent]
-#[tactic(auto, using(crate::proofs::Past::history_more))]
+#[tactic(auto, using(crate::proofs::Prefix::history_more))]
 pub fn consistency(entries: &[Entry], m: ObjectId) -> Consistency
     ensures { result ≡ consistency_in (history entries.now) m }
 {
@@ -224,7 +230,7 @@ pub fn consistency(entries: &[Entry], m: ObjectId) -> Consistency
 
 /// Returns the view of a mutex that its verdict table takes.  [XSH 2.9.3]
 pub fn mutex_view(entries: &[Entry], m: ObjectId) -> MutexView
-    ensures { result ≡ view_in (history entries.now) m }
+    ensures { result ≡ mutex_view (history entries.now) m }
 {
     let kind = kind_of(entries, m);
     let owner = owner(entries, m);

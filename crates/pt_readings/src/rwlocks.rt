@@ -1,15 +1,15 @@
 ghost use Rattle.std.specs.Prelude.{◌≡◌, ◌≤◌, ◌<◌, ◌-◌, ◌^◌, ◌&&◌, length};
-ghost use Rattle.pt_types.specs.RwlockTable.{holds};
+ghost use Rattle.pt_types.specs.RwlockTable.{has_lock};
 ghost use Rattle.pt_model.specs.Clients.{is_alive as lives};
 ghost use Rattle.pt_types.specs.Operations.{operation};
 ghost use Rattle.pt_model.specs.Histories.{history};
-ghost use Rattle.pt_model.specs.WaitingCall.{at_place, stood};
-ghost use Rattle.pt_model.specs.Rwlocks.{rwunlocks as rwunlocks_in, is_for_read as is_reader};
-ghost use Rattle.pt_model.specs.Rwlocks.{is_for_write as is_writer, writes as writes_in};
-ghost use Rattle.pt_model.specs.Rwlocks.{writes_by as writes_after, reads as reads_in};
-ghost use Rattle.pt_model.specs.Rwlocks.{reads_by as reads_after, writer as writer_in};
-ghost use Rattle.pt_model.specs.Rwlocks.{reader as reader_in, rwlock_view as view};
-ghost use Rattle.pt_model.specs.Rwlocks.{is_held_alive as is_held_alive_in};
+ghost use Rattle.pt_model.specs.WaitingCall.{call_at_place, waiting_calls};
+ghost use Rattle.pt_model.specs.Rwlocks.{rwunlocks, is_for_read};
+ghost use Rattle.pt_model.specs.Rwlocks.{is_for_write, is_writer as writes_in};
+ghost use Rattle.pt_model.specs.Rwlocks.{is_writer_by, read_count};
+ghost use Rattle.pt_model.specs.Rwlocks.{read_count_by, write_holder};
+ghost use Rattle.pt_model.specs.Rwlocks.{first_reader, rwlock_view};
+ghost use Rattle.pt_model.specs.Rwlocks.{has_living_holder};
 
 use crate::clients::is_alive;
 use crate::objects::means;
@@ -22,7 +22,7 @@ use pt_types::{Call, ClientId, ObjectId, Outcome};
 
 /// Returns true if a call that was answered 0 gives the lock back.  [XSH pthread_rwlock_unlock]
 pub fn rwunlocks(entries: &[Entry], call: &Call, r: ObjectId) -> bool
-    ensures { result ≡ rwunlocks_in (history entries.now) (operation call.now) r }
+    ensures { result ≡ rwunlocks (history entries.now) (operation call.now) r }
 {
     match operation_of(call) {
         Operation::Rwunlocks(n) => means(entries, n, ObjectClass::Rwlock, r),
@@ -33,7 +33,7 @@ pub fn rwunlocks(entries: &[Entry], call: &Call, r: ObjectId) -> bool
 /// Returns true if the call at a place is the client's call for a read lock.
 /// [XSH pthread_rwlock_rdlock]
 pub fn is_for_read(entries: &[Entry], j: u64, r: ObjectId, c: ClientId) -> bool
-    ensures { result ≡ is_reader (at_place j (stood (history entries.now))) r c }
+    ensures { result ≡ is_for_read (call_at_place j (waiting_calls (history entries.now))) r c }
 {
     match waiting_call_at(entries, j) {
         Some(w) => matches!(w.role, Role::ForRead) && w.object == r && w.client == c,
@@ -44,7 +44,7 @@ pub fn is_for_read(entries: &[Entry], j: u64, r: ObjectId, c: ClientId) -> bool
 /// Returns true if the call at a place is the client's call for the write lock.
 /// [XSH pthread_rwlock_wrlock]
 pub fn is_for_write(entries: &[Entry], j: u64, r: ObjectId, c: ClientId) -> bool
-    ensures { result ≡ is_writer (at_place j (stood (history entries.now))) r c }
+    ensures { result ≡ is_for_write (call_at_place j (waiting_calls (history entries.now))) r c }
 {
     match waiting_call_at(entries, j) {
         Some(w) => matches!(w.role, Role::ForWrite) && w.object == r && w.client == c,
@@ -53,8 +53,14 @@ pub fn is_for_write(entries: &[Entry], j: u64, r: ObjectId, c: ClientId) -> bool
 }
 
 /// Returns whether a client holds the write lock after an entry.  [XSH pthread_rwlock_unlock]
-pub fn writes_by(entries: &[Entry], entry: &Entry, r: ObjectId, c: ClientId, before: bool) -> bool
-    ensures { result ≡ writes_after (history entries.now) entry.now r c before }
+pub fn is_writer_by(
+    entries: &[Entry],
+    entry: &Entry,
+    r: ObjectId,
+    c: ClientId,
+    before: bool,
+) -> bool
+    ensures { result ≡ is_writer_by (history entries.now) entry.now r c before }
 {
     match entry {
         Entry::Call(d, call, Some(Outcome::Done)) if *d == c && rwunlocks(entries, call, r) => {
@@ -66,22 +72,22 @@ pub fn writes_by(entries: &[Entry], entry: &Entry, r: ObjectId, c: ClientId, bef
 }
 
 /// Returns true if a client holds the write lock.  [XSH pthread_rwlock_wrlock]
-#[tactic(auto, using(crate::proofs::Past::history_more))]
+#[tactic(auto, using(crate::proofs::Prefix::history_more))]
 pub fn writes(entries: &[Entry], r: ObjectId, c: ClientId) -> bool
     ensures { result ≡ writes_in (history entries.now) r c }
 {
     let mut found = false;
     for (i, entry) in entries.iter().enumerate() {
-        found = writes_by(&entries[..i], entry, r, c, found);
+        found = is_writer_by(&entries[..i], entry, r, c, found);
     }
     found
 }
 
 /// Returns the number of a client's read locks after an entry. An unlock takes one away, unless it
 /// gives back the write lock.  [XSH pthread_rwlock_unlock]
-pub fn reads_by(entries: &[Entry], entry: &Entry, r: ObjectId, c: ClientId, before: u64) -> u64
+pub fn read_count_by(entries: &[Entry], entry: &Entry, r: ObjectId, c: ClientId, before: u64) -> u64
     requires { before < 2 ^ 64 - 1 }
-    ensures { result ≡ reads_after (history entries.now) entry.now r c before }
+    ensures { result ≡ read_count_by (history entries.now) entry.now r c before }
 {
     match entry {
         Entry::Call(d, call, Some(Outcome::Done))
@@ -94,21 +100,21 @@ pub fn reads_by(entries: &[Entry], entry: &Entry, r: ObjectId, c: ClientId, befo
 }
 
 /// Returns the number of read locks that a client holds.  [XSH pthread_rwlock_rdlock]
-#[tactic(auto, using(crate::proofs::Past::history_more))]
+#[tactic(auto, using(crate::proofs::Prefix::history_more))]
 pub fn reads(entries: &[Entry], r: ObjectId, c: ClientId) -> u64
-    ensures value { result ≡ reads_in (history entries.now) r c }
-    ensures small { result ≤ length entries.now }
+    ensures value { result ≡ read_count (history entries.now) r c }
+    ensures within { result ≤ length entries.now }
 {
     let mut count = 0;
     for (i, entry) in entries.iter().enumerate() {
-        count = reads_by(&entries[..i], entry, r, c, count);
+        count = read_count_by(&entries[..i], entry, r, c, count);
     }
     count
 }
 
 /// Returns the client, dead or alive, that holds the write lock.  [XSH pthread_rwlock_wrlock]
 pub fn writer(entries: &[Entry], r: ObjectId) -> Option<ClientId>
-    ensures { result ≡ writer_in (history entries.now) r }
+    ensures { result ≡ write_holder (history entries.now) r }
 {
     for i in 0..entries.len() {
         let c = ClientId(i as u64);
@@ -121,7 +127,7 @@ pub fn writer(entries: &[Entry], r: ObjectId) -> Option<ClientId>
 
 /// Returns the first client, dead or alive, that holds read locks.  [XSH pthread_rwlock_rdlock]
 pub fn reader(entries: &[Entry], r: ObjectId) -> Option<ClientId>
-    ensures { result ≡ reader_in (history entries.now) r }
+    ensures { result ≡ first_reader (history entries.now) r }
 {
     for i in 0..entries.len() {
         let c = ClientId(i as u64);
@@ -134,7 +140,7 @@ pub fn reader(entries: &[Entry], r: ObjectId) -> Option<ClientId>
 
 /// Returns the view of a read-write lock that its verdict tables take, for one caller.  [XSH 2.9]
 pub fn rwlock_view(entries: &[Entry], r: ObjectId, c: ClientId) -> RwlockView
-    ensures { result ≡ view (history entries.now) r c }
+    ensures { result ≡ rwlock_view (history entries.now) r c }
 {
     RwlockView {
         writes: writes(entries, r, c),
@@ -146,14 +152,15 @@ pub fn rwlock_view(entries: &[Entry], r: ObjectId, c: ClientId) -> RwlockView
 
 /// Returns true if a client lives and holds the lock.  [XSH pthread_rwlock_destroy]
 pub fn holds_alive(entries: &[Entry], r: ObjectId, c: ClientId) -> bool
-    ensures { result ≡ (lives (history entries.now) c && holds (view (history entries.now) r c)) }
+    ensures { result ≡ (lives (history entries.now) c
+        && has_lock (rwlock_view (history entries.now) r c)) }
 {
     is_alive(entries, c) && (writes(entries, r, c) || 0 < reads(entries, r, c))
 }
 
 /// Returns true if a living client holds the lock.  [XSH pthread_rwlock_destroy]
-pub fn is_held_alive(entries: &[Entry], r: ObjectId) -> bool
-    ensures { result ≡ is_held_alive_in (history entries.now) r }
+pub fn has_living_holder(entries: &[Entry], r: ObjectId) -> bool
+    ensures { result ≡ has_living_holder (history entries.now) r }
 {
     for i in 0..entries.len() {
         if holds_alive(entries, r, ClientId(i as u64)) {

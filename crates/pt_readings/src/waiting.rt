@@ -1,13 +1,14 @@
 ghost use Rattle.std.specs.Prelude.{◌≡◌};
 ghost use Rattle.pt_model.specs.Histories.{history};
-ghost use Rattle.pt_model.specs.Searches.{listed};
-ghost use Rattle.pt_model.specs.WaitingCall.{meant as meant_in, entered as entered_in};
-ghost use Rattle.pt_model.specs.WaitingCall.{stood_by as stood_after, stood, at_place, is_wait_if};
+ghost use Rattle.pt_model.specs.Searches.{option_list};
+ghost use Rattle.pt_model.specs.WaitingCall.{object_or_zero, new_waiting_call};
+ghost use Rattle.pt_model.specs.WaitingCall.{waiting_calls_by, waiting_calls, call_at_place};
+ghost use Rattle.pt_model.specs.WaitingCall.{is_cond_wait_if};
 
 use crate::clients::client;
 use crate::objects::find;
 use pt_model::Entry;
-use pt_model::waiting_call::{Role, WaitingCall, is_wait, role_needed};
+use pt_model::waiting_call::{Role, WaitingCall, is_cond_wait, role_of_lock};
 use pt_types::operations::{
     ObjectClass, Operation, class_needed, clock_of, deadline_of, operation_of,
 };
@@ -15,7 +16,7 @@ use pt_types::{ClientId, Clock, Deadline, Name, ObjectId};
 
 /// Returns the object that a name means as the call comes, or 0 if it means none.
 pub fn meant(entries: &[Entry], n: &Name, class: ObjectClass) -> ObjectId
-    ensures { result ≡ meant_in (history entries.now) n.now class }
+    ensures { result ≡ object_or_zero (history entries.now) n.now class }
 {
     match find(entries, n, class) {
         Some(object) => object,
@@ -24,7 +25,7 @@ pub fn meant(entries: &[Entry], n: &Name, class: ObjectClass) -> ObjectId
 }
 
 /// Returns a client's call as a waiting call that is entered now.
-#[tactic(auto, using(crate::proofs::Past::place_all))]
+#[tactic(auto, using(crate::proofs::Prefix::place_all))]
 pub fn entered(
     entries: &[Entry],
     c: ClientId,
@@ -34,7 +35,7 @@ pub fn entered(
     deadline: Option<Deadline>,
 ) -> WaitingCall
     ensures { result
-        ≡ entered_in (history entries.now) c object role clock deadline }
+        ≡ new_waiting_call (history entries.now) c object role clock deadline }
 {
     WaitingCall {
         place: entries.len() as u64,
@@ -54,8 +55,8 @@ pub fn entered(
 }
 
 /// Returns the call that an entry leaves waiting, if it leaves one.
-pub fn stood_by(entries: &[Entry], entry: &Entry) -> Option<WaitingCall>
-    ensures { listed result ≡ stood_after (history entries.now) entry.now }
+pub fn waiting_calls_by(entries: &[Entry], entry: &Entry) -> Option<WaitingCall>
+    ensures { option_list result ≡ waiting_calls_by (history entries.now) entry.now }
 {
     let Entry::Call(c, call, None) = entry else {
         return None;
@@ -68,17 +69,17 @@ pub fn stood_by(entries: &[Entry], entry: &Entry) -> Option<WaitingCall>
                 entries,
                 *c,
                 object,
-                role_needed(lock_kind),
+                role_of_lock(lock_kind),
                 clock,
                 deadline_of(how),
             ))
         }
-        Operation::Awaits(n, m, deadline) => {
+        Operation::CondWaits(n, m, deadline) => {
             let mutex = meant(entries, m, ObjectClass::Mutex);
             let object = meant(entries, n, ObjectClass::Cond);
             Some(entered(entries, *c, object, Role::ForCond(mutex), clock, deadline))
         }
-        Operation::Arrives(n) => {
+        Operation::BarrierWaits(n) => {
             let object = meant(entries, n, ObjectClass::Barrier);
             Some(entered(entries, *c, object, Role::ForBarrier, clock, None))
         }
@@ -88,21 +89,21 @@ pub fn stood_by(entries: &[Entry], entry: &Entry) -> Option<WaitingCall>
 
 /// Returns the call that came without a reply at a place.
 pub fn waiting_call_at(entries: &[Entry], j: u64) -> Option<WaitingCall>
-    ensures { result ≡ at_place j (stood (history entries.now)) }
+    ensures { result ≡ call_at_place j (waiting_calls (history entries.now)) }
 {
     if j >= entries.len() as u64 {
         return None;
     }
     let i = j as usize;
-    stood_by(&entries[..i], &entries[i])
+    waiting_calls_by(&entries[..i], &entries[i])
 }
 
 /// Returns true if the call at a place is a wait.  [XSH pthread_cond_wait]
 pub fn is_wait_at(entries: &[Entry], j: u64) -> bool
-    ensures { result ≡ is_wait_if (at_place j (stood (history entries.now))) }
+    ensures { result ≡ is_cond_wait_if (call_at_place j (waiting_calls (history entries.now))) }
 {
     match waiting_call_at(entries, j) {
-        Some(w) => is_wait(w.role),
+        Some(w) => is_cond_wait(w.role),
         None => false,
     }
 }

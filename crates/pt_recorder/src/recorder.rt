@@ -8,7 +8,7 @@ use std::mem;
 
 /// The greatest number of clients that a trace can name, since a name has at most eight bytes.
 /// [profile]
-const MOST_NAMES: u64 = 9_999_999;
+const MAX_NAMES: u64 = 9_999_999;
 
 /// How a client appears in the trace.
 #[derive(Clone, Copy)]
@@ -48,7 +48,7 @@ impl Recorder {
 
     // Gives a new client a name, and returns it.
     fn introduce(&mut self, client: ClientId) -> Result<u64, AllocError> {
-        if self.names >= MOST_NAMES {
+        if self.names >= MAX_NAMES {
             return Err(AllocError);
         }
         self.names += 1;

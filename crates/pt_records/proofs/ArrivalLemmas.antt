@@ -7,29 +7,29 @@ use Rattle.pt_waitq.specs.Queues.{of_client}
 use Rattle.pt_model.specs.Searches.{In}
 use Rattle.pt_model.specs.Histories.{History}
 use Rattle.pt_model.specs.declared.waiting_call.WaitingCall.{WaitingCall}
-use Rattle.pt_model.specs.WaitingCall.{is_arrival}
+use Rattle.pt_model.specs.WaitingCall.{is_barrier_wait}
 use Rattle.pt_model.specs.Answers.{at_barrier, open_calls}
 use Rattle.pt_model.proofs.Counting.{total}
 use Rattle.pt_model.proofs.Lists.{filter-in}
 use Rattle.pt_model.proofs.Ascending.{Ascends, Ascends-filter}
 use Rattle.pt_model.proofs.OpenOrder.{open-ascends}
 use Rattle.pt_records.specs.declared.answers.Answered.{Answered}
-use Rattle.pt_records.specs.Arrivals.{WaitsAs, passed_to}
-use Rattle.pt_records.specs.Counts.{one_if}
+use Rattle.pt_records.specs.Arrivals.{WaitsAs, answer_to_earlier}
+use Rattle.pt_records.specs.Counts.{count_if_passed}
 
 -- whether a call waits at the barrier
 abbrev pub arrives_at : ℕ → WaitingCall → Bool
-arrives_at b w = is_arrival w.role && (w.object == b)
+arrives_at b w = is_barrier_wait w.role && (w.object == b)
 
 pub arrivals-ascend : (h : History) (b : ℕ) → Ascends 0 (at_barrier b (open_calls h))
 arrivals-ascend h b = Ascends-filter (arrives_at b) 0 (open_calls h) (open-ascends h)
 
 -- how many of these answers are to the call at place n
 abbrev pub to_place : ℕ → List Answered → ℕ
-to_place n ts = total (λ (a : Answered). one_if (a.place == n)) ts
+to_place n ts = total (λ (a : Answered). count_if_passed (a.place == n)) ts
 
 none-to : (k n : ℕ) (vs : List Waiter) → ((v : Waiter) → In v vs → v.place ≡ n → ⊥)
-    → to_place n (map (passed_to k) vs) ≡ 0
+    → to_place n (map (answer_to_earlier k) vs) ≡ 0
 none-to k n [] f = refl
 none-to k n (v ∷ vs) f =
     rw (ne_eqb v.place n (f v (inl refl))) (omega (arith, none-to k n vs (λ u i e. f u (inr i) e)))
@@ -94,21 +94,21 @@ module _ (h : History) (b k n : ℕ) where
   pub arrivals-lone : (vs : List Waiter) → ((c : ℕ) → length (of_client c vs) ≤ 1)
       → ((v : Waiter) → In v vs
       → (w : WaitingCall) × (In w (at_barrier b (open_calls h)) × WaitsAs w v))
-      → to_place n (map (passed_to k) vs) ≤ 1
-  arrivals-lone [] once known = omega arith
-  arrivals-lone (v ∷ vs) once known = elim (cases_eq v.place n) [
+      → to_place n (map (answer_to_earlier k) vs) ≤ 1
+  arrivals-lone [] once has_call = omega arith
+  arrivals-lone (v ∷ vs) once has_call = elim (cases_eq v.place n) [
     | inl at ↦
         let nothing = none-to k n vs (other at) in
         rw (eq-eqb v.place n at) (omega (arith, nothing))
     | inr ne ↦
-        let rest = arrivals-lone vs (once-rest v vs once) (λ u i. known u (inr i)) in
+        let rest = arrivals-lone vs (once-rest v vs once) (λ u i. has_call u (inr i)) in
         rw (ne_eqb v.place n ne) (omega (arith, rest))
   ]
     where
       other : v.place ≡ n → (u : Waiter) → In u vs → u.place ≡ n → ⊥
       other at u i e =
-          let mine = known v (inl refl) in
-          let its = known u (inr i) in
+          let mine = has_call v (inl refl) in
+          let its = has_call u (inr i) in
           let same : its.0 ≡ mine.0 =
           one-place 0 (at_barrier b (open_calls h)) (arrivals-ascend h b) its.0 mine.0 its.1.0
           mine.1.0 (sym its.1.1.1 ∙ (e ∙ (sym at ∙ mine.1.1.1))) in

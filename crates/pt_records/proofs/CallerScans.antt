@@ -6,7 +6,7 @@ use Rattle.std.proofs.lemmas.Bool.Decides.{nat_tests}
 use Rattle.pt_table.specs.declared.clients.ClientRow.{ClientRow}
 use Rattle.pt_table.specs.ClientRows.{client_at, client_value, with_client, nth_number, nth_value}
 use Rattle.pt_records.specs.declared.clients.Caller.{Caller}
-use Rattle.pt_records.specs.Callers.{Once}
+use Rattle.pt_records.specs.Callers.{HasDistinctNumbers}
 use Rattle.pt_records.specs.Writes.{RewritesCallers, rewritten_nth}
 use Rattle.pt_records.proofs.RowLemmas.{Apart, Apart-map, length-map, value-map}
 use Rattle.pt_records.proofs.CallerWrites.{number_in, value_in, apart-once, once-apart}
@@ -56,8 +56,8 @@ module _ (g : Caller → Caller) where
   first-apart (row ∷ rows) zero a = a
   first-apart (row ∷ rows) (suc i) a = (first-row rows i row.number a.0, first-apart rows i a.1)
 
-  pub first-once : (rows : List (ClientRow Caller)) (i : ℕ) → Once rows
-      → Once (rewritten_first rows i)
+  pub first-once : (rows : List (ClientRow Caller)) (i : ℕ) → HasDistinctNumbers rows
+      → HasDistinctNumbers (rewritten_first rows i)
   first-once rows i once =
       once-apart (rewritten_first rows i) (first-apart rows i (apart-once rows once))
 
@@ -168,7 +168,7 @@ nth-with g (row ∷ rows) (suc i) n v a e is =
 
 -- the same for a change of the value that was found there, if g makes the same change
 pub nth-written : (g f : Caller → Caller) (rows : List (ClientRow Caller)) (i n : ℕ) (v u : Caller)
-    → Once rows → nth_number rows i ≡ Some n → nth_value rows i ≡ Some v
+    → HasDistinctNumbers rows → nth_number rows i ≡ Some n → nth_value rows i ≡ Some v
     → Some u ≡ client_value rows n → g v ≡ f v
     → with_client rows n (f u) ≡ rewritten_nth g rows i
 nth-written g f rows i n v u once e is found same =
@@ -178,7 +178,8 @@ nth-written g f rows i n v u once e is found same =
     ap (with_client rows n) (ap f what ∙ sym same) ∙ nth-with g rows i n v a e is
 
 -- a client whose number is at an index has a row
-pub nth-absent : {X : Type 0} (rows : List (ClientRow Caller)) (i n : ℕ) (v : Caller) → Once rows
+pub nth-absent : {X : Type 0} (rows : List (ClientRow Caller)) (i n : ℕ) (v : Caller)
+    → HasDistinctNumbers rows
     → nth_number rows i ≡ Some n → nth_value rows i ≡ Some v
     → ◌≡◌ {A = Option Caller} None (client_value rows n) → X
 nth-absent rows i n v once e is none =

@@ -9,7 +9,7 @@ use Rattle.pt_table.specs.declared.clients.ClientRow.{ClientRow}
 use Rattle.pt_table.specs.ClientRows.{client_at, client_value, has_client, with_client, and_client}
 use Rattle.pt_table.specs.ClientRows.{without_client}
 use Rattle.pt_records.specs.declared.clients.Caller.{Caller}
-use Rattle.pt_records.specs.Callers.{Once}
+use Rattle.pt_records.specs.Callers.{HasDistinctNumbers}
 use Rattle.pt_records.specs.Writes.{AddsCaller, ChangesCaller, RemovesCaller, WritesCaller}
 use Rattle.pt_records.proofs.RowLemmas.{Apart, Apart-map, Apart-added, Apart-without, length-map}
 use Rattle.pt_records.proofs.RowLemmas.{length-added, length-without, one_changed, one-kept}
@@ -49,11 +49,11 @@ any-none (r ∷ rows) n e = go (any-none rows n) (nat_eq n r.number) refl e
         ap (λ b. b || list_any (λ other. other.number == n) rows) apart ∙ ih e
 
 -- so the rows list no number twice exactly if each row is found by its number
-pub apart-once : (rows : List (ClientRow Caller)) → Once rows → Apart number_in rows
+pub apart-once : (rows : List (ClientRow Caller)) → HasDistinctNumbers rows → Apart number_in rows
 apart-once [] a = tt
 apart-once (r ∷ rows) a = (none-any rows r.number a.0, apart-once rows a.1)
 
-pub once-apart : (rows : List (ClientRow Caller)) → Apart number_in rows → Once rows
+pub once-apart : (rows : List (ClientRow Caller)) → Apart number_in rows → HasDistinctNumbers rows
 once-apart [] a = tt
 once-apart (r ∷ rows) a = (any-none rows r.number a.0, once-apart rows a.1)
 

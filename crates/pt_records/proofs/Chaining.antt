@@ -10,9 +10,9 @@ use Rattle.pt_table.specs.declared.clients.ClientRow.{ClientRow}
 use Rattle.pt_table.specs.ClientRows.{client_value}
 use Rattle.pt_table.specs.declared.objects.ObjectRow.{ObjectRow}
 use Rattle.pt_table.specs.ObjectRows.{object_value}
-use Rattle.pt_table.specs.Linked.{is_linked, IsChain, IsOneOf}
+use Rattle.pt_table.specs.Linked.{is_linked, IsRowChain, IsOneOf}
 use Rattle.pt_table.proofs.ChainCallers.{rising-kept}
-use Rattle.pt_model.specs.Found.{passes}
+use Rattle.pt_model.specs.Found.{is_some_and}
 use Rattle.pt_records.specs.declared.clients.Caller.{Caller}
 use Rattle.pt_records.specs.declared.objects.Object.{Object}
 use Rattle.pt_records.specs.Chained.{is_gone, robust_owner, robust_owner_at, KeepsChains, HasOwned}
@@ -22,7 +22,7 @@ use Rattle.pt_records.specs.Writes.{AddsObject, RemovesObject, new_object}
 use Rattle.pt_records.proofs.ChainsKept.{chain-stays}
 
 -- an option that passes a test has a value
-pub passed : {B : Type 0} (test : B → Bool) (o : Option B) → passes test o ≡ true
+pub passed : {B : Type 0} (test : B → Bool) (o : Option B) → is_some_and test o ≡ true
     → (x : B) × ((o ≡ Some x) × (test x ≡ true))
 passed test None e = cc
 passed test (Some x) e = (x, (refl, e))
@@ -38,7 +38,7 @@ new-owner B (kind.Barrier count) = refl
 module _ {A : Type 0} where
   -- a chain without a head is empty
   pub none-listed : (objects : List (ObjectRow (Object A))) (numbers : List ℕ)
-      → IsChain objects None numbers → (m : ℕ) → IsOneOf numbers m → ⊥
+      → IsRowChain objects None numbers → (m : ℕ) → IsOneOf numbers m → ⊥
   none-listed objects [] l m i = absurd i
   none-listed objects (n ∷ ns) l m i =
       let head : ◌≡◌ {A = Option ℕ} None (Some n) = l.0 in
@@ -54,7 +54,7 @@ module _ {A : Type 0} where
     whole = λ m e. h.whole m (sym (agree (robust_owner_at objects m)) ∙ e);
   }
     where
-      agree : (o : Option ℕ) → passes other o ≡ passes test o
+      agree : (o : Option ℕ) → is_some_and other o ≡ is_some_and test o
       agree None = refl
       agree (Some c) = same c
 
@@ -68,8 +68,8 @@ module _ {A : Type 0} where
       owned-kept head test h = record {
         numbers = h.numbers;
         chain = chain-stays old new k head h.numbers h.chain;
-        listed = λ m i. ap (passes test) (same m) ∙ h.listed m i;
-        whole = λ m e. h.whole m (sym (ap (passes test) (same m)) ∙ e);
+        listed = λ m i. ap (is_some_and test) (same m) ∙ h.listed m i;
+        whole = λ m e. h.whole m (sym (ap (is_some_and test) (same m)) ∙ e);
       }
 
       pub chained-kept : AreChained clients new orphans
@@ -197,7 +197,7 @@ module _ {A : Type 0} where
         → client_value old c ≡ None → ⊥
     owner-lives m c e none =
         none-listed objects a.dead.numbers a.dead.chain m
-        (a.dead.whole m (ap (passes (is_gone old)) e ∙ ap is_none none))
+        (a.dead.whole m (ap (is_some_and (is_gone old)) e ∙ ap is_none none))
 
     -- a client that owns nothing joins
     pub chained-joined : (c : ℕ) (v : Caller) → AddsCaller old new c v → client_value old c ≡ None

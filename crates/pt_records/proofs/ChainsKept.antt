@@ -6,7 +6,7 @@ use Rattle.std.proofs.lemmas.Bool.Decides.{eqb_tells, nat_tests}
 use Rattle.pt_table.specs.declared.objects.ObjectRow.{ObjectRow}
 use Rattle.pt_table.specs.ObjectRows.{object_at, link_of, with_object, and_object, without_object}
 use Rattle.pt_table.specs.ObjectRows.{out_of_chains}
-use Rattle.pt_table.specs.Linked.{is_linked, linked_by, IsChain}
+use Rattle.pt_table.specs.Linked.{is_linked, linked_by, IsRowChain}
 use Rattle.pt_table.proofs.ChainCallers.{chain-kept, chain-linked, link-valued, link-added}
 use Rattle.pt_table.proofs.ChainCallers.{link-removed}
 use Rattle.pt_records.specs.declared.objects.Object.{Object}
@@ -17,8 +17,8 @@ use Rattle.pt_records.proofs.ObjectWrites.{number_in}
 module _ {A : Type 0} where
   -- chains are unchanged if the rows that are in one keep their links
   pub chain-stays : (old new : List (ObjectRow (Object A))) → KeepsChains old new
-      → (head : Option ℕ) (numbers : List ℕ) → IsChain old head numbers
-      → IsChain new head numbers
+      → (head : Option ℕ) (numbers : List ℕ) → IsRowChain old head numbers
+      → IsRowChain new head numbers
   chain-stays old new k head numbers l =
       chain-kept old new head numbers
       (λ m i. k.links m (chain-linked old head numbers l m i)) l

@@ -5,23 +5,25 @@ use Rattle.std.proofs.Common.{option_map, refl, sym, ap, subst, true≢false, in
 use Rattle.std.proofs.Common.{IsTrue, arith}
 use Rattle.std.specs.Option.{option_and_then}
 use Rattle.std.proofs.lemmas.Bool.Decides.{eqb_tells, nat_tests}
-use Rattle.pt_types.specs.MutexTable.{owns, is_number, is_recursive, after_release}
-use Rattle.pt_types.specs.Limits.{most_locks}
+use Rattle.pt_types.specs.MutexTable.{owns, is_some_number, is_recursive, after_release}
+use Rattle.pt_types.specs.Limits.{max_locks}
 use Rattle.pt_types.specs.declared.views.MutexView.{MutexView}
-use Rattle.pt_mutex.specs.MutexState.{MutexState, acquired, can_acquire, released, freed, yielded}
+use Rattle.pt_mutex.specs.MutexState.{MutexState, mutex_after_acquire, can_acquire}
+use Rattle.pt_mutex.specs.MutexState.{mutex_after_release, mutex_without_owner, mutex_after_yield}
 use Rattle.pt_table.specs.declared.clients.ClientRow.{ClientRow}
 use Rattle.pt_table.specs.ClientRows.{client_at, client_value, has_client}
 use Rattle.pt_table.specs.declared.objects.ObjectRow.{ObjectRow}
 use Rattle.pt_table.specs.ObjectRows.{object_value}
-use Rattle.pt_table.specs.Linked.{unlinked, but_number, HasChain, IsInChain, IsChain, IsOneOf}
-use Rattle.pt_model.specs.Found.{passes}
+use Rattle.pt_table.specs.Linked.{rows_without_links, but_number, HasChain, IsInChain, IsRowChain}
+use Rattle.pt_table.specs.Linked.{IsOneOf}
+use Rattle.pt_model.specs.Found.{is_some_and}
 use Rattle.pt_records.specs.declared.clients.Caller.{Caller}
 use Rattle.pt_records.specs.declared.objects.Object.{Object}
 use Rattle.pt_records.specs.declared.objects.Object.TheVariants.{Mutex, Rwlock, Cond, Barrier}
 use Rattle.pt_records.specs.Chained.{is_gone, is_robust_free, is_locked_once, robust_owner}
 use Rattle.pt_records.specs.Chained.{robust_owner_at, KeepsChains, HasOwned, AreChained}
-use Rattle.pt_records.specs.Chained.{EntersChain, LeavesChain, unowned}
-use Rattle.pt_records.specs.Callers.{Once}
+use Rattle.pt_records.specs.Chained.{EntersChain, UnlinksFromChain, rows_without_owned}
+use Rattle.pt_records.specs.Callers.{HasDistinctNumbers}
 use Rattle.pt_records.specs.LocksInRows.{mutex_in}
 use Rattle.pt_records.specs.Moved.{Moves, IsMoved}
 use Rattle.pt_records.specs.Writes.{WritesObject}
@@ -38,7 +40,7 @@ free-owner false owner e = refl
 
 -- a client that locks a robust mutex that is not free owns it already
 pub again-owner : (robust : Bool) (owner : Option ℕ) (c : ℕ) (b : Bool)
-    → (robust && is_none owner) ≡ false → IsTrue (is_none owner || (is_number owner c && b))
+    → (robust && is_none owner) ≡ false → IsTrue (is_none owner || (is_some_number owner c && b))
     → cond robust (Some c) None ≡ cond robust owner None
 again-owner true None c b e can = cc
 again-owner true (Some d) c b e can = go (eqb_tells d c) can
@@ -52,7 +54,8 @@ again-owner false owner c b e can = refl
 -- a client that gives one of several locks back still owns the mutex
 abbrev given_back : MutexView → Bool → MutexView
 given_back s several =
-    cond several (record s { count = s.count - 1 }) (freed s (after_release s.consistency))
+    cond several (record s { count = s.count - 1 }) (mutex_without_owner s
+    (after_release s.consistency))
 
 still-owner : (s : MutexView) (b : Bool) → (s.robust && not b) ≡ false
     → cond (given_back s b).robust (given_back s b).owner None ≡ cond s.robust s.owner None
@@ -78,7 +81,7 @@ last-owner s true e = go s.robust e
 last-owner s false e = no-owner s.robust
 
 once-owner : (robust : Bool) (owner : Option ℕ) (c : ℕ) (b : Bool) → (robust && b) ≡ true
-    → is_number owner c ≡ true → cond robust owner None ≡ Some c
+    → is_some_number owner c ≡ true → cond robust owner None ≡ Some c
 once-owner true None c b e own = cc
 once-owner true (Some d) c b e own =
     let same : d ≡ c = grind (arith, nat_tests) in
@@ -102,25 +105,25 @@ row-there clients c has = go (client_at clients c) refl has
     go (Some r) found e = (r.value, ap (option_map (λ (row : ClientRow Caller). row.value)) found)
 
 module _ {A : Type 0} where
-  free-none : (o : Option (Object A)) → passes is_robust_free o ≡ true
+  free-none : (o : Option (Object A)) → is_some_and is_robust_free o ≡ true
       → option_and_then robust_owner o ≡ None
   free-none None e = refl
-  free-none (Some (Mutex m)) e = free-owner m.seen.robust m.seen.owner e
+  free-none (Some (Mutex m)) e = free-owner m.view.robust m.view.owner e
   free-none (Some (Rwlock r)) e = refl
   free-none (Some (Cond q)) e = refl
   free-none (Some (Barrier count)) e = refl
 
   -- a chain that an object is in has a head
   pub has-head : (objects : List (ObjectRow (Object A))) (head : Option ℕ) (test : ℕ → Bool)
-      → HasOwned objects head test → (m : ℕ) → passes test (robust_owner_at objects m) ≡ true
+      → HasOwned objects head test → (m : ℕ) → is_some_and test (robust_owner_at objects m) ≡ true
       → (n : ℕ) × ((head ≡ Some n) × IsInChain objects n m)
   has-head objects head test h m e = go h.numbers h.chain (h.whole m e)
     where
-      go : (numbers : List ℕ) → IsChain objects head numbers → IsOneOf numbers m
+      go : (numbers : List ℕ) → IsRowChain objects head numbers → IsOneOf numbers m
           → (n : ℕ) × ((head ≡ Some n) × IsInChain objects n m)
       go [] l i = absurd i
       go (n ∷ ns) l i =
-          (n, (l.0, (n ∷ ns, subst (λ x. IsChain objects x (n ∷ ns)) l.0 l, i)))
+          (n, (l.0, (n ∷ ns, subst (λ x. IsRowChain objects x (n ∷ ns)) l.0 l, i)))
 
   -- a row enters a chain or leaves it, and then a value is written
   enters-then : (old mid new : List (ObjectRow (Object A))) (head after : Option ℕ) (m : ℕ)
@@ -133,7 +136,7 @@ module _ {A : Type 0} where
   }
 
   pub leaves-then : (old mid new : List (ObjectRow (Object A))) (head after : Option ℕ) (m : ℕ)
-      → KeepsChains mid new → LeavesChain old mid head after m → LeavesChain old new head after m
+      → KeepsChains mid new → UnlinksFromChain old mid head after m → UnlinksFromChain old new head after m
   leaves-then old mid new head after m k w = record {
     chain = λ ns l. chain-stays mid new k after (but_number ns m) (w.chain ns l);
     others = λ ns l other its o apart.
@@ -162,16 +165,16 @@ module _ {A : Type 0} where
   -- its head, if the client has a mutex that is locked once
   pub head-there : (clients : List (ClientRow Caller)) (objects : List (ObjectRow (Object A)))
       → ((orphans : Option ℕ) × AreChained clients objects orphans) → (c m : ℕ) (x : MutexState)
-      → object_value objects m ≡ Some (Mutex x) → IsTrue (owns x.seen c)
-      → passes is_locked_once (object_value objects m) ≡ true → (v : Caller)
+      → object_value objects m ≡ Some (Mutex x) → IsTrue (owns x.view c)
+      → is_some_and is_locked_once (object_value objects m) ≡ true → (v : Caller)
       → client_value clients c ≡ Some v
       → (n : ℕ) × ((v.owned ≡ Some n) × IsInChain objects n m)
   head-there clients objects a c m x is own e v there =
       has-head objects v.owned (λ owner. owner == c) (a.1.living c v there) m
-      (ap (passes (λ owner. owner == c))
+      (ap (is_some_and (λ owner. owner == c))
       (ap (option_and_then robust_owner) is
-      ∙ once-owner x.seen.robust x.seen.owner c (not (nat_lt 1 x.seen.count))
-      (sym (ap (passes is_locked_once) is) ∙ e) own)
+      ∙ once-owner x.view.robust x.view.owner c (not (nat_lt 1 x.view.count))
+      (sym (ap (is_some_and is_locked_once) is) ∙ e) own)
       ∙ same c)
     where
       same : (n : ℕ) → (n == n) ≡ true
@@ -189,15 +192,16 @@ module _ {A : Type 0} where
   module _ (moves : Moves A) (must : Bool) (clients after : List (ClientRow Caller))
       (old mid : List (ObjectRow (Object A))) (c m : ℕ)
       (moved : IsMoved moves must clients after old mid c m) where
-    pub moved-objects : unlinked mid ≡ unlinked old
+    pub moved-objects : rows_without_links mid ≡ rows_without_links old
     moved-objects = elim moved [
-      | inl s ↦ ap unlinked s.1.1
+      | inl s ↦ ap rows_without_links s.1.1
       | inr s ↦ s.1.1.0
     ]
 
-    pub moved-clients : Once clients → unowned after ≡ unowned clients
+    pub moved-clients : HasDistinctNumbers clients → rows_without_owned after
+        ≡ rows_without_owned clients
     moved-clients once = elim moved [
-      | inl s ↦ ap unowned s.1.0
+      | inl s ↦ ap rows_without_owned s.1.0
       | inr s ↦ s.1.1.1 once
     ]
 
@@ -205,18 +209,19 @@ module _ {A : Type 0} where
       (c m : ℕ) (x : MutexState) (is : object_value old m ≡ Some (Mutex x))
       (has : has_client clients c ≡ true) (k : KeepsChains mid new) (orphans : Option ℕ)
       (a : AreChained clients old orphans) where
-    pub locked-chained : IsTrue (can_acquire x.seen c)
-        → IsMoved EntersChain (passes is_robust_free (object_value old m)) clients after old mid c m
-        → WritesObject old new m (Mutex (record x { seen = acquired x.seen c }))
+    pub locked-chained : IsTrue (can_acquire x.view c)
+        → IsMoved EntersChain (is_some_and is_robust_free
+        (object_value old m)) clients after old mid c m
+        → WritesObject old new m (Mutex (record x { view = mutex_after_acquire x.view c }))
         → AreChained after new orphans
     locked-chained can moved w = elim moved [
       | inl s ↦
           subst (λ rows. AreChained rows new orphans) (sym s.1.0)
           (chained-written clients old new orphans a m (Mutex x)
-          (Mutex (record x { seen = acquired x.seen c })) is w
-          (again-owner x.seen.robust x.seen.owner c
-          (is_recursive x.seen.kind && nat_lt x.seen.count most_locks)
-          (sym (ap (passes is_robust_free) is) ∙ s.0) can)
+          (Mutex (record x { view = mutex_after_acquire x.view c })) is w
+          (again-owner x.view.robust x.view.owner c
+          (is_recursive x.view.kind && nat_lt x.view.count max_locks)
+          (sym (ap (is_some_and is_robust_free) is) ∙ s.0) can)
           (subst (λ rows. KeepsChains rows new) s.1.1 k))
       | inr s ↦
           let v = row-there clients c has in
@@ -224,28 +229,30 @@ module _ {A : Type 0} where
           chained-entered clients old new orphans a c m v.0 v.1 after own.0 own.1.0
           (free-none (object_value old m) s.0)
           (enters-then old mid new v.0.owned own.0 m k own.1.1)
-          (owners-written old new m (Mutex (record x { seen = acquired x.seen c })) (Some c) w
-          (new-owner x.seen.robust x.seen.owner c (sym (ap (passes is_robust_free) is) ∙ s.0)))
+          (owners-written old new m (Mutex (record x { view = mutex_after_acquire x.view c }))
+          (Some c) w
+          (new-owner x.view.robust x.view.owner c (sym (ap (is_some_and is_robust_free) is) ∙ s.0)))
     ]
 
-    own-lock : IsTrue (owns x.seen c) → passes is_locked_once (object_value old m) ≡ true
+    own-lock : IsTrue (owns x.view c) → is_some_and is_locked_once (object_value old m) ≡ true
         → robust_owner_at old m ≡ Some c
     own-lock own e =
         ap (option_and_then robust_owner) is
-        ∙ once-owner x.seen.robust x.seen.owner c (not (nat_lt 1 x.seen.count))
-        (sym (ap (passes is_locked_once) is) ∙ e) own
+        ∙ once-owner x.view.robust x.view.owner c (not (nat_lt 1 x.view.count))
+        (sym (ap (is_some_and is_locked_once) is) ∙ e) own
 
-    pub unlocked-chained : IsTrue (owns x.seen c)
-        → IsMoved LeavesChain (passes is_locked_once (object_value old m)) clients after old mid c m
-        → WritesObject old new m (Mutex (record x { seen = released x.seen }))
+    pub unlocked-chained : IsTrue (owns x.view c)
+        → IsMoved UnlinksFromChain (is_some_and is_locked_once
+        (object_value old m)) clients after old mid c m
+        → WritesObject old new m (Mutex (record x { view = mutex_after_release x.view }))
         → AreChained after new orphans
     unlocked-chained own moved w = elim moved [
       | inl s ↦
           subst (λ rows. AreChained rows new orphans) (sym s.1.0)
           (chained-written clients old new orphans a m (Mutex x)
-          (Mutex (record x { seen = released x.seen })) is w
-          (still-owner x.seen (nat_lt 1 x.seen.count)
-          (sym (ap (passes is_locked_once) is) ∙ s.0))
+          (Mutex (record x { view = mutex_after_release x.view })) is w
+          (still-owner x.view (nat_lt 1 x.view.count)
+          (sym (ap (is_some_and is_locked_once) is) ∙ s.0))
           (subst (λ rows. KeepsChains rows new) s.1.1 k))
       | inr s ↦
           let v = row-there clients c has in
@@ -253,9 +260,9 @@ module _ {A : Type 0} where
           chained-left clients old new orphans a c m v.0 v.1 after out.0 out.1.0
           (own-lock own s.0)
           (leaves-then old mid new v.0.owned out.0 m k out.1.1)
-          (owners-written old new m (Mutex (record x { seen = released x.seen })) None w
-          (last-owner x.seen (nat_lt 1 x.seen.count)
-          (sym (ap (passes is_locked_once) is) ∙ s.0)))
+          (owners-written old new m (Mutex (record x { view = mutex_after_release x.view })) None w
+          (last-owner x.view (nat_lt 1 x.view.count)
+          (sym (ap (is_some_and is_locked_once) is) ∙ s.0)))
     ]
 
   -- the head of the orphans' chain is one of them, and has a dead owner
@@ -265,9 +272,9 @@ module _ {A : Type 0} where
       × ((d : ℕ) × ((robust_owner_at objects m ≡ Some d) × (is_gone clients d ≡ true)))
   head-orphan clients objects m a = go a.dead.numbers a.dead.chain a.dead.listed
     where
-      go : (numbers : List ℕ) → IsChain objects (Some m) numbers
+      go : (numbers : List ℕ) → IsRowChain objects (Some m) numbers
           → ((n : ℕ) → IsOneOf numbers n
-          → passes (is_gone clients) (robust_owner_at objects n) ≡ true)
+          → is_some_and (is_gone clients) (robust_owner_at objects n) ≡ true)
           → IsInChain objects m m
           × ((d : ℕ) × ((robust_owner_at objects m ≡ Some d) × (is_gone clients d ≡ true)))
       go [] l each =
@@ -281,15 +288,15 @@ module _ {A : Type 0} where
           )
 
   -- after the mutex is taken from its owner
-  pub freed-chained : (clients : List (ClientRow Caller))
+  pub mutex_without_owner-chained : (clients : List (ClientRow Caller))
       (old mid new : List (ObjectRow (Object A))) (m : ℕ) (after : Option ℕ) (x : MutexState)
       → AreChained clients old (Some m)
-      → LeavesChain old mid (Some m) after m → KeepsChains mid new
-      → WritesObject old new m (Mutex (record x { seen = yielded x.seen }))
+      → UnlinksFromChain old mid (Some m) after m → KeepsChains mid new
+      → WritesObject old new m (Mutex (record x { view = mutex_after_yield x.view }))
       → AreChained clients new after
-  freed-chained clients old mid new m after x a out k w =
+  mutex_without_owner-chained clients old mid new m after x a out k w =
       let orphan = (head-orphan clients old m a).1 in
       chained-yielded clients old new (Some m) after m orphan.0 a orphan.1.0 orphan.1.1
       (leaves-then old mid new (Some m) after m k out)
-      (owners-written old new m (Mutex (record x { seen = yielded x.seen })) None w
-      (no-owner x.seen.robust))
+      (owners-written old new m (Mutex (record x { view = mutex_after_yield x.view })) None w
+      (no-owner x.view.robust))

@@ -9,9 +9,9 @@ use Rattle.pt_types.specs.declared.operations.ObjectClass.TheVariants.{Mutex as 
 use Rattle.pt_types.specs.declared.operations.ObjectClass.TheVariants.{Rwlock as RwlockClass}
 use Rattle.pt_types.specs.declared.operations.ObjectClass.TheVariants.{Cond as CondClass}
 use Rattle.pt_types.specs.declared.operations.ObjectClass.TheVariants.{Barrier as BarrierClass}
-use Rattle.pt_rwlock.specs.RwlockState.{RwlockState, seen_by}
+use Rattle.pt_rwlock.specs.RwlockState.{RwlockState, view_for}
 use Rattle.pt_model.specs.Histories.{History}
-use Rattle.pt_model.specs.Objects.{is_class, kind_of, find}
+use Rattle.pt_model.specs.Objects.{is_class, kind_of, find_object}
 use Rattle.pt_model.specs.Rwlocks.{rwlock_view}
 use Rattle.pt_model.specs.Steps.{Follows}
 use Rattle.pt_model.proofs.Named.{known_exists}
@@ -54,7 +54,7 @@ class_same BarrierClass CondClass e = absurd cc
 
 -- the object that a name finds has the class
 pub class-found : (h : History) → Follows h → (n : List ℕ) (s : ObjectClass) (o : ℕ)
-    → find h n s ≡ Some o
+    → find_object h n s ≡ Some o
     → option_map class_of (kind_of h o) ≡ Some s
 class-found h f n s o e = go (kind_of h o) (known_exists h f s o (n, e))
   where
@@ -63,7 +63,8 @@ class-found h f n s o e = go (kind_of h o) (known_exists h f s o (n, e))
     go (Some k) e = ap Some (class_same (class_of k) s e)
 
 -- an object that a name finds as a lock is a lock
-pub lock-found : (h : History) → Follows h → (n : List ℕ) (r : ℕ) → find h n RwlockClass ≡ Some r
+pub lock-found : (h : History) → Follows h → (n : List ℕ) (r : ℕ) → find_object h n RwlockClass
+    ≡ Some r
     → kind_of h r ≡ Some kind.Rwlock
 lock-found h f n r e = go (kind_of h r) (known_exists h f RwlockClass r (n, e))
   where
@@ -75,7 +76,8 @@ lock-found h f n r e = go (kind_of h r) (known_exists h f RwlockClass r (n, e))
     go (Some (kind.Barrier n)) e = absurd cc
 
 -- an object that a name finds as a condition is a condition
-pub cond-found : (h : History) → Follows h → (n : List ℕ) (q : ℕ) → find h n CondClass ≡ Some q
+pub cond-found : (h : History) → Follows h → (n : List ℕ) (q : ℕ) → find_object h n CondClass
+    ≡ Some q
     → kind_of h q ≡ Some kind.Cond
 cond-found h f n q e = go (kind_of h q) (known_exists h f CondClass q (n, e))
   where
@@ -88,5 +90,5 @@ cond-found h f n q e = go (kind_of h q) (known_exists h f CondClass q (n, e))
 
 -- a client sees a stored lock as it is read off the history
 pub view-kept : (h : History) → Follows h → (o : ℕ) (r : RwlockState) → IsRwlock h o r → (c : ℕ)
-    → seen_by r c ≡ rwlock_view h o c
+    → view_for r c ≡ rwlock_view h o c
 view-kept h f o r k c = view-by h f o r k.writer k.reads c

@@ -4,8 +4,8 @@ use Rattle.std.proofs.Common.{None, is_some, option_map, Result, Ok, Err, OnErr,
 use Rattle.pt_mutex.specs.MutexState.{MutexState}
 use Rattle.pt_rwlock.specs.RwlockState.{RwlockState}
 use Rattle.pt_table.specs.declared.objects.ObjectRow.{ObjectRow}
-use Rattle.pt_table.specs.ObjectRows.{object_named, object_value, has_object, with_object}
-use Rattle.pt_table.specs.ObjectRows.{and_object, without_object, is_taken, out_of_chains}
+use Rattle.pt_table.specs.ObjectRows.{row_with_name, object_value, has_object, with_object}
+use Rattle.pt_table.specs.ObjectRows.{and_object, without_object, is_in_use, out_of_chains}
 use Rattle.pt_records.specs.declared.objects.Object.{Object}
 use Rattle.pt_records.specs.declared.objects.Object.TheVariants.{Mutex, Rwlock}
 use Rattle.pt_records.specs.Objects.{Rising}
@@ -53,9 +53,9 @@ module _ {A : Type 0} where
       (kept : Object A) (u y : MutexState) → Some kept ≡ object_value rows m → kept ≡ Mutex u
       → y ≡ f u → (x : MutexState) → object_value rows m ≡ Some (Mutex x)
       → WritesObject rows (with_object rows m (Mutex y)) m (Mutex (f x))
-  writes-mutex f rows m kept u y found is made x e =
+  writes-mutex f rows m kept u y found is is_queue x e =
       let same : x ≡ u = cc in
-      let what : y ≡ f x = made ∙ sym (ap f same) in
+      let what : y ≡ f x = is_queue ∙ sym (ap f same) in
       rw what
       (writes-object rows m (Mutex (f x)) (value-there number_in value_in rows m (Mutex x) e))
 
@@ -64,16 +64,16 @@ module _ {A : Type 0} where
       (kept : Object A) (u y : RwlockState) → Some kept ≡ object_value rows r → kept ≡ Rwlock u
       → y ≡ f u → (x : RwlockState) → object_value rows r ≡ Some (Rwlock x)
       → WritesObject rows (with_object rows r (Rwlock y)) r (Rwlock (f x))
-  writes-lock f rows r kept u y found is made x e =
+  writes-lock f rows r kept u y found is is_queue x e =
       let same : x ≡ u = cc in
-      let what : y ≡ f x = made ∙ sym (ap f same) in
+      let what : y ≡ f x = is_queue ∙ sym (ap f same) in
       rw what
       (writes-object rows r (Rwlock (f x)) (value-there number_in value_in rows r (Rwlock x) e))
 
   -- if neither the number nor the name is taken, the name is new
   unnamed : (rows : List (ObjectRow (Object A))) (o : ℕ) (name : List ℕ)
-      → is_taken rows o name ≡ false → object_named rows name ≡ None
-  unnamed rows o name e = go (has_object rows o) (object_named rows name) e
+      → is_in_use rows o name ≡ false → row_with_name rows name ≡ None
+  unnamed rows o name e = go (has_object rows o) (row_with_name rows name) e
     where
       go : (b : Bool) (n : Option (ObjectRow (Object A))) → (b || is_some n) ≡ false → n ≡ None
       go true n e = cc
@@ -82,7 +82,7 @@ module _ {A : Type 0} where
 
   -- the rows with a new one
   pub adds-object : (rows : List (ObjectRow (Object A))) (o : ℕ) (name : List ℕ) (x : Object A)
-      → is_taken rows o name ≡ false → Rising rows o
+      → is_in_use rows o name ≡ false → Rising rows o
       → AddsObject rows (and_object rows o name x) o name x
   adds-object rows o name x free rising =
       let row : ObjectRow (Object A) =

@@ -10,16 +10,18 @@ use Rattle.pt_model.specs.Searches.{In}
 use Rattle.pt_model.specs.Histories.{History}
 use Rattle.pt_model.specs.declared.waiting_call.WaitingCall.{WaitingCall}
 use Rattle.pt_model.specs.Answers.{open_calls}
-use Rattle.pt_model.specs.Moves.{moved}
+use Rattle.pt_model.specs.Moves.{wait_move}
 use Rattle.pt_model.specs.Steps.{Follows}
 use Rattle.pt_model.proofs.Lists.{any-in, in-any, any-false}
 use Rattle.pt_model.proofs.OneEach.{one_each}
 use Rattle.pt_records.specs.declared.clients.Caller.{Caller}
 use Rattle.pt_records.specs.declared.clients.Open.{Open}
-use Rattle.pt_records.specs.Callers.{AreCallers, Once, call_of, call_in, move_in, opens_of}
+use Rattle.pt_records.specs.Callers.{AreCallers, HasDistinctNumbers, call_of, call_in, move_in}
+use Rattle.pt_records.specs.Callers.{opens_of}
 
 -- a row is found by its number
-pub row-look : (rows : List (ClientRow Caller)) → Once rows → (row : ClientRow Caller) → In row rows
+pub row-look : (rows : List (ClientRow Caller)) → HasDistinctNumbers rows → (row : ClientRow Caller)
+    → In row rows
     → client_value rows row.number ≡ Some row.value
 row-look [] once row i = absurd i
 row-look (x ∷ rows) once row (inl e) =
@@ -144,7 +146,7 @@ found-open h rows f a w i =
 pub open-kept : (h : History) (rows : List (ClientRow Caller)) → AreCallers h rows
     → (row : ClientRow Caller) (o : Open) → In row rows → row.value.open ≡ Some o
     → (call_of (open_calls h) row.number ≡ Some o.call)
-    × (o.moved ≡ moved h o.call.place)
+    × (o.moved ≡ wait_move h o.call.place)
 open-kept h rows a row o i e =
     let look = row-look rows a.once row i in
     let call : call_in (client_value rows row.number) ≡ Some o.call = rw (look, e) refl in
@@ -156,7 +158,7 @@ open-kept h rows a row o i e =
 -- each open call in the rows is open, and is stored with its move
 pub open-found : (h : History) (rows : List (ClientRow Caller)) → AreCallers h rows → (o : Open)
     → In o (opens_of rows)
-    → In o.call (open_calls h) × (o.moved ≡ moved h o.call.place)
+    → In o.call (open_calls h) × (o.moved ≡ wait_move h o.call.place)
 open-found h rows a o i =
     let row = open-row rows o i in
     let kept = open-kept h rows a row.0 o row.1.0 row.1.1 in
@@ -172,7 +174,7 @@ bool_same false false f g = refl
 pub any-opens : (h : History) (rows : List (ClientRow Caller)) → Follows h → AreCallers h rows
     → (p : WaitingCall → Bool) (q : Open → Bool)
     → ((o : Open) → In o.call (open_calls h)
-    → o.moved ≡ moved h o.call.place → q o ≡ p o.call)
+    → o.moved ≡ wait_move h o.call.place → q o ≡ p o.call)
     → list_any q (opens_of rows) ≡ list_any p (open_calls h)
 any-opens h rows f a p q same = bool_same (list_any q (opens_of rows)) (list_any p (open_calls h))
     there back

@@ -7,13 +7,14 @@ use Rattle.std.proofs.lemmas.Bool.Decides.{eqb_tells, nat_tests}
 use Rattle.pt_table.specs.declared.clients.ClientRow.{ClientRow}
 use Rattle.pt_table.specs.ClientRows.{client_value, with_client}
 use Rattle.pt_table.specs.declared.objects.ObjectRow.{ObjectRow}
-use Rattle.pt_table.specs.Linked.{is_linked, IsChain, IsRising, but_number, KeepsOthers, AreApart}
+use Rattle.pt_table.specs.Linked.{is_linked, IsRowChain, IsRising, but_number, KeepsOthers}
+use Rattle.pt_table.specs.Linked.{AreDisjoint}
 use Rattle.pt_table.proofs.ChainCallers.{rising-kept, rising-left}
-use Rattle.pt_model.specs.Found.{passes}
+use Rattle.pt_model.specs.Found.{is_some_and}
 use Rattle.pt_records.specs.declared.clients.Caller.{Caller}
 use Rattle.pt_records.specs.declared.objects.Object.{Object}
 use Rattle.pt_records.specs.Chained.{is_gone, robust_owner_at, HasOwned, AreChained, EntersChain}
-use Rattle.pt_records.specs.Chained.{LeavesChain}
+use Rattle.pt_records.specs.Chained.{UnlinksFromChain}
 use Rattle.pt_records.specs.Writes.{WritesCaller}
 use Rattle.pt_records.proofs.CallerWrites.{writes-by}
 use Rattle.pt_records.proofs.Chaining.{passed}
@@ -47,10 +48,10 @@ module _ {A : Type 0} where
   pub owned-less : (clients : List (ClientRow Caller)) (old new : List (ObjectRow (Object A)))
       (n c m : ℕ) (u : Caller) (first : ℕ) (head : Option ℕ) → n ≡ c
       → Some u ≡ client_value clients n
-      → u.owned ≡ Some first → LeavesChain old new (Some first) head m → (v : Caller)
+      → u.owned ≡ Some first → UnlinksFromChain old new (Some first) head m → (v : Caller)
       → client_value clients c ≡ Some v → (h : Option ℕ)
       × (WritesCaller clients (with_client clients n (record u { owned = head })) c
-      (record v { owned = h }) × LeavesChain old new v.owned h m)
+      (record v { owned = h }) × UnlinksFromChain old new v.owned h m)
   owned-less clients old new n c m u first head number is begins leaves v e =
       let found : client_value clients n ≡ Some v = ap (client_value clients) number ∙ e in
       let same : u ≡ v = cc in
@@ -60,7 +61,7 @@ module _ {A : Type 0} where
           subst (λ d. WritesCaller clients (with_client clients n (record u { owned = head })) d
               (record v { owned = head })) number
               (writes-by (λ x. record x { owned = head }) clients n u is v found),
-          subst (λ x. LeavesChain old new x head m) its leaves,
+          subst (λ x. UnlinksFromChain old new x head m) its leaves,
         ),
       )
 
@@ -73,16 +74,16 @@ module _ {A : Type 0} where
       (h : HasOwned old head test) where
     -- a chain with owners that the test refuses has no object in common with this one
     others-apart : (other : Option ℕ) (its : ℕ → Bool) (o : HasOwned old other its)
-        → ((k : ℕ) → test k ≡ true → its k ≡ true → ⊥) → AreApart h.numbers o.numbers
+        → ((k : ℕ) → test k ≡ true → its k ≡ true → ⊥) → AreDisjoint h.numbers o.numbers
     others-apart other its o differ n i j =
         let p = passed test (robust_owner_at old n) (h.listed n i) in
-        differ p.0 p.1.1 (sym (ap (passes its) p.1.0) ∙ o.listed n j)
+        differ p.0 p.1.1 (sym (ap (is_some_and its) p.1.0) ∙ o.listed n j)
 
     -- another chain, with owners that the test refuses, still rises
     others-rise : KeepsOthers old new head → (other : Option ℕ) (its : ℕ → Bool)
         → (o : HasOwned old other its) → ((k : ℕ) → test k ≡ true → its k ≡ true → ⊥)
-        → ((ns : List ℕ) → IsChain old other ns → IsRising ns)
-        → (ns : List ℕ) → IsChain new other ns → IsRising ns
+        → ((ns : List ℕ) → IsRowChain old other ns → IsRising ns)
+        → (ns : List ℕ) → IsRowChain new other ns → IsRising ns
     others-rise kept other its o differ rise =
         rising-kept old new other o.numbers o.chain
         (kept h.numbers h.chain other o.numbers o.chain (others-apart other its o differ)) rise
@@ -90,7 +91,8 @@ module _ {A : Type 0} where
     -- another chain, with owners that the test refuses
     pub others : KeepsOthers old new head → (other : Option ℕ) (its : ℕ → Bool)
         → HasOwned old other its → ((k : ℕ) → test k ≡ true → its k ≡ true → ⊥)
-        → ((p : ℕ) → passes its (robust_owner_at new p) ≡ passes its (robust_owner_at old p))
+        → ((p : ℕ) → is_some_and its (robust_owner_at new p)
+        ≡ is_some_and its (robust_owner_at old p))
         → HasOwned new other its
     others kept other its o differ owners = record {
       numbers = o.numbers;
@@ -107,7 +109,7 @@ module _ {A : Type 0} where
     entered w c passing owners = record {
       numbers = m ∷ h.numbers;
       chain = w.chain h.numbers h.chain;
-      listed = λ p i. ap (passes test) (owners p) ∙ elim (eqb_tells m p) [
+      listed = λ p i. ap (is_some_and test) (owners p) ∙ elim (eqb_tells m p) [
         | inl s ↦ rw s.0 passing
         | inr s ↦ rw s.0 (elim i [
           | inl e ↦ absurd (s.1 (sym e))
@@ -119,28 +121,28 @@ module _ {A : Type 0} where
         | inr s ↦
             inr
             (h.whole p
-            (sym (ap (passes test)
+            (sym (ap (is_some_and test)
             (owners p ∙ ap (λ b. cond b (Some c) (robust_owner_at old p)) s.0)) ∙ e))
       ];
     }
 
     -- the chain that the mutex leaves
-    left : LeavesChain old new head after m → Owned old new m None → HasOwned new after test
+    left : UnlinksFromChain old new head after m → Owned old new m None → HasOwned new after test
     left w owners = record {
       numbers = but_number h.numbers m;
       chain = w.chain h.numbers h.chain;
-      listed = λ p i. ap (passes test) (owners p) ∙ elim (eqb_tells m p) [
+      listed = λ p i. ap (is_some_and test) (owners p) ∙ elim (eqb_tells m p) [
         | inl s ↦ absurd ((but-listed h.numbers m p i).1 s.1)
         | inr s ↦ rw s.0 (h.listed p (but-listed h.numbers m p i).0)
       ];
       whole = λ p e. elim (eqb_tells m p) [
         | inl s ↦
-            absurd (true≢false (sym e ∙ ap (passes test)
+            absurd (true≢false (sym e ∙ ap (is_some_and test)
             (owners p ∙ ap (λ b. cond b None (robust_owner_at old p)) s.0)))
         | inr s ↦
             but-kept h.numbers m p s.1
             (h.whole p
-            (sym (ap (passes test)
+            (sym (ap (is_some_and test)
             (owners p ∙ ap (λ b. cond b None (robust_owner_at old p)) s.0)) ∙ e))
       ];
     }
@@ -176,7 +178,7 @@ module _ {A : Type 0} where
           → ((d : ℕ) (u : Caller) → (c ≡ d → ⊥) → client_value clients d ≡ Some u
           → HasOwned new u.owned (λ owner. owner == d))
           → HasOwned new orphans (is_gone clients)
-          → ((ns : List ℕ) → IsChain new orphans ns → IsRising ns)
+          → ((ns : List ℕ) → IsRowChain new orphans ns → IsRising ns)
           → ((p : ℕ) → is_linked new p ≡ is_some (robust_owner_at new p))
           → AreChained after new orphans
       rechained own other dead rising linked = record {
@@ -191,7 +193,7 @@ module _ {A : Type 0} where
         linked = linked;
       }
         where
-          agree : (o : Option ℕ) → passes (is_gone after) o ≡ passes (is_gone clients) o
+          agree : (o : Option ℕ) → is_some_and (is_gone after) o ≡ is_some_and (is_gone clients) o
           agree None = refl
           agree (Some d) = gone d
 
@@ -235,10 +237,10 @@ module _ {A : Type 0} where
           same n = grind (arith, nat_tests)
 
           kept : (its : ℕ → Bool) → its c ≡ false → (p : ℕ)
-              → passes its (robust_owner_at new p) ≡ passes its (robust_owner_at old p)
-          kept its refused p = ap (passes its) (owners p) ∙ elim (eqb_tells m p) [
+              → is_some_and its (robust_owner_at new p) ≡ is_some_and its (robust_owner_at old p)
+          kept its refused p = ap (is_some_and its) (owners p) ∙ elim (eqb_tells m p) [
             | inl s ↦ rw s.0
-                (refused ∙ sym (ap (passes its) (ap (robust_owner_at old) (sym s.1) ∙ none)))
+                (refused ∙ sym (ap (is_some_and its) (ap (robust_owner_at old) (sym s.1) ∙ none)))
             | inr s ↦ rw s.0 refl
           ]
 
@@ -254,7 +256,7 @@ module _ {A : Type 0} where
 
       -- the mutex was the client's, and is nobody's now
       pub chained-left : robust_owner_at old m ≡ Some c
-          → LeavesChain old new v.owned head m → Owned old new m None
+          → UnlinksFromChain old new v.owned head m → Owned old new m None
           → AreChained after new orphans
       chained-left its_own leaves owners =
           rechained
@@ -272,10 +274,11 @@ module _ {A : Type 0} where
           own = a.living c v there
 
           kept : (its : ℕ → Bool) → its c ≡ false → (p : ℕ)
-              → passes its (robust_owner_at new p) ≡ passes its (robust_owner_at old p)
-          kept its refused p = ap (passes its) (owners p) ∙ elim (eqb_tells m p) [
+              → is_some_and its (robust_owner_at new p) ≡ is_some_and its (robust_owner_at old p)
+          kept its refused p = ap (is_some_and its) (owners p) ∙ elim (eqb_tells m p) [
             | inl s ↦ rw s.0
-                (sym (ap (passes its) (ap (robust_owner_at old) (sym s.1) ∙ its_own) ∙ refused))
+                (sym (ap (is_some_and its) (ap (robust_owner_at old) (sym s.1) ∙ its_own)
+                ∙ refused))
             | inr s ↦ rw s.0 refl
           ]
 
@@ -293,7 +296,7 @@ module _ {A : Type 0} where
   pub chained-yielded : (clients : List (ClientRow Caller)) (old new : List (ObjectRow (Object A)))
       (orphans after : Option ℕ) (m d : ℕ) → AreChained clients old orphans
       → robust_owner_at old m ≡ Some d → is_gone clients d ≡ true
-      → LeavesChain old new orphans after m → Owned old new m None → AreChained clients new after
+      → UnlinksFromChain old new orphans after m → Owned old new m None → AreChained clients new after
   chained-yielded clients old new orphans after m d a its_own dead leaves owners = record {
     living = λ c v e.
         others old new orphans (is_gone clients) a.dead leaves.others v.owned
@@ -317,11 +320,11 @@ module _ {A : Type 0} where
       ]
 
       kept : (c : ℕ) (v : Caller) → client_value clients c ≡ Some v → (p : ℕ)
-          → passes (λ owner. owner == c) (robust_owner_at new p)
-          ≡ passes (λ owner. owner == c) (robust_owner_at old p)
-      kept c v e p = ap (passes (λ owner. owner == c)) (owners p) ∙ elim (eqb_tells m p) [
+          → is_some_and (λ owner. owner == c) (robust_owner_at new p)
+          ≡ is_some_and (λ owner. owner == c) (robust_owner_at old p)
+      kept c v e p = ap (is_some_and (λ owner. owner == c)) (owners p) ∙ elim (eqb_tells m p) [
         | inl s ↦ rw s.0
-            (sym (ap (passes (λ owner. owner == c))
+            (sym (ap (is_some_and (λ owner. owner == c))
             (ap (robust_owner_at old) (sym s.1) ∙ its_own) ∙ not-it c v e))
         | inr s ↦ rw s.0 refl
       ]

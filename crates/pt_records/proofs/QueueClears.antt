@@ -8,49 +8,50 @@ use Rattle.std.proofs.lemmas.Bool.{false≢true, ne_eqb}
 use Rattle.std.proofs.lemmas.Bool.Decides.{nat_tests}
 use Rattle.pt_waitq.specs.declared.waiter.Waiter.{Waiter}
 use Rattle.pt_records.specs.declared.answers.Answered.{Answered}
-use Rattle.pt_records.specs.Arrivals.{answer_to, passed_to, with_serial}
-use Rattle.pt_waitq.specs.Queues.{head_of, of_client, stands_in, without}
+use Rattle.pt_records.specs.Arrivals.{answer_to, answer_to_earlier, with_serial}
+use Rattle.pt_waitq.specs.Queues.{head_of, of_client, is_queued_in, other_waiters}
 use Rattle.pt_waitq.specs.ListLemmas.{filter-rest}
 use Rattle.pt_waitq.proofs.CallerLemmas.{head-stands}
 
 -- a queue is no longer without a client's waiters than with them
-without-length : (c : ℕ) (ws : List Waiter) → length (without c ws) ≤ length ws
-without-length c [] = omega arith
-without-length c (w ∷ ws) = go (not (w.client == c)) (without-length c ws)
+other_waiters-length : (c : ℕ) (ws : List Waiter) → length (other_waiters c ws) ≤ length ws
+other_waiters-length c [] = omega arith
+other_waiters-length c (w ∷ ws) = go (not (w.client == c)) (other_waiters-length c ws)
   where
-    go : (b : Bool) → length (without c ws) ≤ length ws
-        → length (cond b (w ∷ without c ws) (without c ws)) ≤ length (w ∷ ws)
+    go : (b : Bool) → length (other_waiters c ws) ≤ length ws
+        → length (cond b (w ∷ other_waiters c ws) (other_waiters c ws)) ≤ length (w ∷ ws)
     go true ih = omega (arith, ih)
     go false ih = omega (arith, ih)
 
 -- a queue is shorter without its first waiter
 pub first-out : (ws : List Waiter) (w : Waiter) → head_of ws ≡ Some w
-    → length (without w.client ws) < length ws
+    → length (other_waiters w.client ws) < length ws
 first-out [] w e = absurd cc
 first-out (v ∷ vs) w e =
     let same : v ≡ w = cc in
     let own : v.client ≡ w.client = ap (λ (x : Waiter). x.client) same in
-    rw (eq-eqb v.client w.client own) (omega (arith, without-length w.client vs))
+    rw (eq-eqb v.client w.client own) (omega (arith, other_waiters-length w.client vs))
 
 -- what is known of the queues after the first waiter of one is removed, if there is one
 module _ (queue queue' : ℕ → List Waiter) (found : Option Waiter) where
   pub taken : (w : Waiter) → found ≡ Some w
-      → IfSome found (λ v. (q : ℕ) → queue' q ≡ without v.client (queue q))
-      → (q : ℕ) → queue' q ≡ without w.client (queue q)
+      → IfSome found (λ v. (q : ℕ) → queue' q ≡ other_waiters v.client (queue q))
+      → (q : ℕ) → queue' q ≡ other_waiters w.client (queue q)
   taken w is out =
-      subst (λ o. IfSome o (λ v. (q : ℕ) → queue' q ≡ without v.client (queue q))) is out
+      subst (λ o. IfSome o (λ v. (q : ℕ) → queue' q ≡ other_waiters v.client (queue q))) is out
 
 -- the first waiter of one queue is in no other
 pub others-stay :
     (queue : ℕ → List Waiter)
-    → ((c q r : ℕ) → stands_in c (queue q) ≡ true → stands_in c (queue r) ≡ true → q ≡ r)
+    → ((c q r : ℕ) → is_queued_in c (queue q) ≡ true → is_queued_in c (queue r) ≡ true → q ≡ r)
     → (object : ℕ) (w : Waiter) → head_of (queue object) ≡ Some w
-    → (q : ℕ) → (object == q) ≡ false → without w.client (queue q) ≡ queue q
+    → (q : ℕ) → (object == q) ≡ false → other_waiters w.client (queue q) ≡ queue q
 others-stay queue one object w e q ne =
     filter-rest (λ (v : Waiter). v.client == w.client) (queue q)
-    (none (stands_in w.client (queue q)) refl)
+    (none (is_queued_in w.client (queue q)) refl)
   where
-    none : (b : Bool) → stands_in w.client (queue q) ≡ b → stands_in w.client (queue q) ≡ false
+    none : (b : Bool) → is_queued_in w.client (queue q) ≡ b → is_queued_in w.client (queue q)
+        ≡ false
     none false k = k
     none true k =
         let same : object ≡ q =
@@ -70,7 +71,7 @@ none-any p (w ∷ ws) le = go (p w) le (none-any p ws)
 -- a queue in which its first waiter's client waits once is that waiter, and then all without that
 -- client
 pub first-split : (ws : List Waiter) (w : Waiter) → head_of ws ≡ Some w
-    → length (of_client w.client ws) ≤ 1 → ws ≡ w ∷ without w.client ws
+    → length (of_client w.client ws) ≤ 1 → ws ≡ w ∷ other_waiters w.client ws
 first-split [] w e le = absurd cc
 first-split (v ∷ vs) w e le =
     let same : v ≡ w = cc in
@@ -80,7 +81,7 @@ first-split (v ∷ vs) w e le =
   where
     go : (b : Bool) → b ≡ true → v ≡ w
         → length (cond b (v ∷ of_client w.client vs) (of_client w.client vs)) ≤ 1
-        → v ∷ vs ≡ w ∷ cond (not b) (v ∷ without w.client vs) (without w.client vs)
+        → v ∷ vs ≡ w ∷ cond (not b) (v ∷ other_waiters w.client vs) (other_waiters w.client vs)
     go false t same few = absurd (false≢true t)
     go true t same few =
         let none = none-any (λ (x : Waiter). x.client == w.client) vs (omega (arith, few)) in
@@ -100,25 +101,26 @@ none-left (w ∷ ws) e = absurd (omega (arith, e))
 
 -- the answer to the first waiter of a queue comes first
 pub serial-first : (k : ℕ) (w : Waiter) (left : List Waiter)
-    → with_serial (map (passed_to k) (w ∷ left))
-    ≡ answer_to k (length left == 0) w ∷ with_serial (map (passed_to k) left)
+    → with_serial (map (answer_to_earlier k) (w ∷ left))
+    ≡ answer_to k (length left == 0) w ∷ with_serial (map (answer_to_earlier k) left)
 serial-first k w [] = refl
 serial-first k w (v ∷ vs) =
-    ap (λ b. answer_to k b w ∷ with_serial (map (passed_to k) (v ∷ vs)))
+    ap (λ b. answer_to k b w ∷ with_serial (map (answer_to_earlier k) (v ∷ vs)))
     (sym (ne_eqb (length (v ∷ vs)) 0 (λ e. omega (arith, e))))
 
 -- the first waiter of the queue was answered, and has left it
 pub told-first : (k : ℕ) (last : Bool) (now then : List Answered) (ws left : List Waiter)
     (w : Waiter) → last ≡ (length left == 0) → then ≡ now ++ answer_to k last w ∷ []
     → ws ≡ w ∷ left
-    → then ++ with_serial (map (passed_to k) left) ≡ now ++ with_serial (map (passed_to k) ws)
+    → then ++ with_serial (map (answer_to_earlier k) left) ≡ now
+    ++ with_serial (map (answer_to_earlier k) ws)
 told-first k last now then ws left w ends is split =
-    let rest = with_serial (map (passed_to k) left) in
+    let rest = with_serial (map (answer_to_earlier k) left) in
     ap (λ ts. ts ++ rest) is
     ∙ (append_assoc now (answer_to k last w ∷ []) rest
     ∙ (ap (λ b. now ++ answer_to k b w ∷ rest) ends
     ∙ (ap (λ ts. now ++ ts) (sym (serial-first k w left))
-    ∙ ap (λ vs. now ++ with_serial (map (passed_to k) vs)) (sym split))))
+    ∙ ap (λ vs. now ++ with_serial (map (answer_to_earlier k) vs)) (sym split))))
 
 -- the queue that was emptied is empty, and the others are unchanged
 pub emptied-one : (b q : ℕ) (queue old : ℕ → List Waiter) → queue b ≡ []

@@ -3,12 +3,12 @@ use Rattle.std.proofs.Common.{◌≡◌, ◌∙◌, ℕ, ◌<◌, List, [], ◌�
 use Rattle.std.proofs.Common.{option_map, refl, sym, ap, subst, cond, nat_eq}
 use Rattle.std.specs.List.{AllByRecursion as Each}
 use Rattle.pt_table.specs.declared.objects.ObjectRow.{ObjectRow}
-use Rattle.pt_table.specs.ObjectRows.{object_named, number_of, out_of_chains}
-use Rattle.pt_table.specs.Linked.{unlinked}
+use Rattle.pt_table.specs.ObjectRows.{row_with_name, number_of_name, out_of_chains}
+use Rattle.pt_table.specs.Linked.{rows_without_links}
 use Rattle.pt_table.proofs.ChainCallers.{same-value}
 use Rattle.pt_model.specs.Histories.{History, place}
 use Rattle.pt_records.specs.declared.objects.Object.{Object}
-use Rattle.pt_records.specs.Objects.{kind_in_row, Rising, AreObjects}
+use Rattle.pt_records.specs.Objects.{kind_in_row, Rising, AreObjectRows}
 use Rattle.pt_records.specs.Writes.{NamesOnce, WritesObject}
 use Rattle.pt_records.proofs.RowLemmas.{length-map}
 use Rattle.pt_records.proofs.ObjectWrites.{number_in, rising-map}
@@ -19,11 +19,12 @@ module _ {A : Type 0} where
   bare row = record row { link = out_of_chains }
 
   Each-bare : (k : ℕ) (rows : List (ObjectRow (Object A)))
-      → Each (λ other. k < other.number) (unlinked rows) → Each (λ other. k < other.number) rows
+      → Each (λ other. k < other.number) (rows_without_links rows)
+      → Each (λ other. k < other.number) rows
   Each-bare k [] a = tt
   Each-bare k (r ∷ rows) a = (a.0, Each-bare k rows a.1)
 
-  rising-bare : (rows : List (ObjectRow (Object A))) (k : ℕ) → Rising (unlinked rows) k
+  rising-bare : (rows : List (ObjectRow (Object A))) (k : ℕ) → Rising (rows_without_links rows) k
       → Rising rows k
   rising-bare [] k a = tt
   rising-bare (r ∷ rows) k a = (a.0, Each-bare r.number rows a.1, rising-bare rows k a.2)
@@ -32,19 +33,21 @@ module _ {A : Type 0} where
   named-bare None e = refl
   named-bare (Some r) e = cc
 
-  names-bare : (rows : List (ObjectRow (Object A))) → NamesOnce (unlinked rows) → NamesOnce rows
+  names-bare : (rows : List (ObjectRow (Object A))) → NamesOnce (rows_without_links rows)
+      → NamesOnce rows
   names-bare [] a = tt
   names-bare (r ∷ rows) a = (
-    named-bare (object_named rows r.name)
+    named-bare (row_with_name rows r.name)
         (sym (row-named-map bare (λ x. refl) rows r.name) ∙ a.0),
     names-bare rows a.1,
   )
 
-  module _ (old new : List (ObjectRow (Object A))) (e : unlinked new ≡ unlinked old) where
-    same-names : (n : List ℕ) → number_of new n ≡ number_of old n
+  module _ (old new : List (ObjectRow (Object A))) (e : rows_without_links new
+      ≡ rows_without_links old) where
+    same-names : (n : List ℕ) → number_of_name new n ≡ number_of_name old n
     same-names n =
         sym (number-map bare (λ r. refl) (λ r. refl) new n)
-        ∙ ap (λ rows. number_of rows n) e ∙ number-map bare (λ r. refl) (λ r. refl) old n
+        ∙ ap (λ rows. number_of_name rows n) e ∙ number-map bare (λ r. refl) (λ r. refl) old n
 
     same-many : length new ≡ length old
     same-many =
@@ -71,7 +74,7 @@ module _ {A : Type 0} where
     }
 
     -- the rows are still those of the objects that exist
-    pub objects-relinked : (h : History) → AreObjects h old → AreObjects h new
+    pub objects-relinked : (h : History) → AreObjectRows h old → AreObjectRows h new
     objects-relinked h a = record {
       look = record {
         kinds = λ o. ap (option_map kind_in_row) (same-value old new e o) ∙ a.look.kinds o;

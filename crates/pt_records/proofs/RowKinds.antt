@@ -67,9 +67,9 @@ module _ {A : Type 0} (rows : List (ObjectRow (Object A))) (n m : ℕ) (same : n
     pub lock-changed : (Q : RwlockState → RwlockState → Type 0) (f : RwlockState → RwlockState)
         (u y : RwlockState) → kept ≡ Rwlock u → y ≡ f u → Q u y → (x : RwlockState)
         → object_value rows m ≡ Some (Rwlock x) → Q x (f x)
-    lock-changed Q f u y is made q x e =
+    lock-changed Q f u y is is_queue q x e =
         subst (λ v. Q v (f v)) (lock_same u x (sym is ∙ one_object (Rwlock x) e))
-        (subst (λ z. Q u z) made q)
+        (subst (λ z. Q u z) is_queue q)
       where
         lock_same : (v w : RwlockState) → ◌≡◌ {A = Object A} (Rwlock v) (Rwlock w) → v ≡ w
         lock_same v w e = cc

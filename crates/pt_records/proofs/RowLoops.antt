@@ -5,14 +5,14 @@ use Rattle.std.specs.List.{list_any, cons_option}
 use Rattle.pt_table.specs.declared.clients.ClientRow.{ClientRow}
 use Rattle.pt_table.specs.ClientRows.{nth_value}
 use Rattle.pt_model.specs.Searches.{In}
-use Rattle.pt_model.specs.Found.{passes}
+use Rattle.pt_model.specs.Found.{is_some_and}
 use Rattle.pt_records.specs.declared.clients.Caller.{Caller}
 use Rattle.pt_records.specs.declared.clients.Open.{Open}
 use Rattle.pt_records.specs.Callers.{open_in, opens_of}
 
 -- a test passes for some calls if it does for the first, or for one after it
 any-first : (q : Open → Bool) (first : Option Open) (os : List Open)
-    → list_any q (cons_option first os) ≡ (passes q first || list_any q os)
+    → list_any q (cons_option first os) ≡ (is_some_and q first || list_any q os)
 any-first q None os = refl
 any-first q (Some o) os = refl
 
@@ -27,21 +27,21 @@ or_false a b e f = rw e f
 
 -- some row's open call passes
 pub any-at : (q : Open → Bool) (rows : List (ClientRow Caller)) (i : ℕ)
-    → passes q (open_in (nth_value rows i)) ≡ true → list_any q (opens_of rows) ≡ true
+    → is_some_and q (open_in (nth_value rows i)) ≡ true → list_any q (opens_of rows) ≡ true
 any-at q [] i e = cc
 any-at q (x ∷ rows) zero e = any-first q x.value.open (opens_of rows) ∙ rw e refl
 any-at q (x ∷ rows) (suc i) e =
     any-first q x.value.open (opens_of rows)
-    ∙ or_right (passes q x.value.open) (list_any q (opens_of rows)) (any-at q rows i e)
+    ∙ or_right (is_some_and q x.value.open) (list_any q (opens_of rows)) (any-at q rows i e)
 
 -- no row's open call passes
 pub any-nowhere : (q : Open → Bool) (rows : List (ClientRow Caller))
-    → ((k : ℕ) → k < length rows → passes q (open_in (nth_value rows k)) ≡ false)
+    → ((k : ℕ) → k < length rows → is_some_and q (open_in (nth_value rows k)) ≡ false)
     → list_any q (opens_of rows) ≡ false
 any-nowhere q [] f = refl
 any-nowhere q (x ∷ rows) f =
     any-first q x.value.open (opens_of rows)
-    ∙ or_false (passes q x.value.open) (list_any q (opens_of rows)) (f 0 (omega arith))
+    ∙ or_false (is_some_and q x.value.open) (list_any q (opens_of rows)) (f 0 (omega arith))
     (any-nowhere q rows (λ k lt. f (suc k) (omega arith)))
 
 -- the open call of some row is one of those in the rows

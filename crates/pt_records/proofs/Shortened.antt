@@ -9,8 +9,8 @@ use Rattle.std.proofs.lemmas.List.Elements.{All-append}
 use Rattle.pt_records.specs.declared.answers.Answered.{Answered}
 use Rattle.pt_records.specs.declared.short.Short.{Short}
 use Rattle.pt_records.specs.declared.short.Short.TheVariants.{Near, Whole}
-use Rattle.pt_records.specs.AnswerLogs.{lengthened, lengthened_all, IsThere, AreReadable}
-use Rattle.pt_records.specs.AnswerLogs.{Shortens, ShortensAlone, no_answer}
+use Rattle.pt_records.specs.AnswerLogs.{answer_of_short, answers_of_shorts, IsThere, AreReadable}
+use Rattle.pt_records.specs.AnswerLogs.{Shortens, ShortensSingle, no_answer}
 
 -- what a short answer refers to stays there as more answers are stored whole
 there-stays : (ws more : List Answered) (s : Short) → IsThere ws s → IsThere (ws ++ more) s
@@ -19,12 +19,12 @@ there-stays ws more (Whole i) t = omega (arith, t, length-append ws more)
 
 -- the answer is still the same
 same-stays : (b : ℕ) (ws more : List Answered) (s : Short) → IsThere ws s
-    → lengthened b (ws ++ more) s ≡ lengthened b ws s
+    → answer_of_short b (ws ++ more) s ≡ answer_of_short b ws s
 same-stays b ws more (Near x k c j) t = refl
 same-stays b ws more (Whole i) t = get_or_append_left ws more _ i t
 
 all-stay : (b : ℕ) (ws more : List Answered) (shorts : List Short) → All (IsThere ws) shorts
-    → lengthened_all b (ws ++ more) shorts ≡ lengthened_all b ws shorts
+    → answers_of_shorts b (ws ++ more) shorts ≡ answers_of_shorts b ws shorts
 all-stay b ws more [] t = refl
 all-stay b ws more (s ∷ shorts) t =
     rw (
@@ -37,15 +37,15 @@ one-there ws s t zero d l = t
 one-there ws s t (suc k) d l = absurd (omega arith)
 
 -- one more short answer
-pub lengthened-push : (b : ℕ) (ws vs more : List Answered) (shorts : List Short) (s : Short)
+pub answer_of_short-push : (b : ℕ) (ws vs more : List Answered) (shorts : List Short) (s : Short)
     (a : Answered)
-    → vs ≡ ws ++ more → AreReadable b ws shorts → lengthened b vs s ≡ a
-    → lengthened_all b vs (shorts ++ s ∷ []) ≡ lengthened_all b ws shorts ++ a ∷ []
-lengthened-push b ws vs more shorts s a grown r same =
-    map-append (lengthened b vs) shorts (s ∷ [])
-    ∙ (ap (λ xs. xs ++ lengthened b vs s ∷ [])
-    (ap (λ us. lengthened_all b us shorts) grown ∙ all-stay b ws more shorts r.there)
-    ∙ ap (λ x. lengthened_all b ws shorts ++ x ∷ []) same)
+    → vs ≡ ws ++ more → AreReadable b ws shorts → answer_of_short b vs s ≡ a
+    → answers_of_shorts b vs (shorts ++ s ∷ []) ≡ answers_of_shorts b ws shorts ++ a ∷ []
+answer_of_short-push b ws vs more shorts s a grown r same =
+    map-append (answer_of_short b vs) shorts (s ∷ [])
+    ∙ (ap (λ xs. xs ++ answer_of_short b vs s ∷ [])
+    (ap (λ us. answers_of_shorts b us shorts) grown ∙ all-stay b ws more shorts r.there)
+    ∙ ap (λ x. answers_of_shorts b ws shorts ++ x ∷ []) same)
 
 pub readable-push : (b : ℕ) (ws vs more : List Answered) (shorts : List Short) (s : Short)
     → vs ≡ ws ++ more → AreReadable b ws shorts → IsThere vs s → AreReadable b vs (shorts ++ s ∷ [])
@@ -59,7 +59,7 @@ readable-push b ws vs more shorts s grown r t = record {
 
 -- one more short answer, for which nothing more is stored whole
 pub readable_alone : (b : ℕ) (ws : List Answered) (shorts : List Short) (s : Short) (a : Answered)
-    → AreReadable b ws shorts → ShortensAlone b a s → AreReadable b ws (shorts ++ s ∷ [])
+    → AreReadable b ws shorts → ShortensSingle b a s → AreReadable b ws (shorts ++ s ∷ [])
 readable_alone b ws shorts s a r one =
     readable-push b ws ws [] shorts s (sym (append-nil ws)) r (one.there ws)
 
@@ -88,9 +88,9 @@ readable-tail b ws s shorts r = record {
 -- what a slice of the short answers shows is the rest of the log
 pub slice-from : (b : ℕ) (ws vs : List Answered) (shorts ss : List Short) (items : List Answered)
     (i : ℕ)
-    → vs ≡ ws → ss ≡ shorts → lengthened_all b ws shorts ≡ items
-    → lengthened_all b vs (take (length ss - i) (drop i ss)) ≡ drop i items
+    → vs ≡ ws → ss ≡ shorts → answers_of_shorts b ws shorts ≡ items
+    → answers_of_shorts b vs (take (length ss - i) (drop i ss)) ≡ drop i items
 slice-from b ws vs shorts ss items i v s all =
     let rest : take (length shorts - i) (drop i shorts) ≡ drop i shorts =
     take_all (length shorts - i) (drop i shorts) (omega (arith, length-drop i shorts)) in
-    rw (v, s, sym all, rest) (sym (drop-map (lengthened b ws) i shorts))
+    rw (v, s, sym all, rest) (sym (drop-map (answer_of_short b ws) i shorts))

@@ -8,8 +8,8 @@ use Rattle.pt_waitq.specs.declared.waiter.Waiter.{Waiter}
 use Rattle.pt_model.specs.Searches.{In}
 use Rattle.pt_model.proofs.Lists.{In-filter}
 use Rattle.pt_records.specs.declared.answers.Answered.{Answered}
-use Rattle.pt_records.specs.Arrivals.{AreInOrder, passed_to}
-use Rattle.pt_records.specs.Counts.{one_if}
+use Rattle.pt_records.specs.Arrivals.{AreInOrder, answer_to_earlier}
+use Rattle.pt_records.specs.Counts.{count_if_passed}
 use Rattle.pt_records.proofs.ArrivalLemmas.{to_place}
 
 -- each call's place is greater than those before it, and at least n
@@ -71,7 +71,7 @@ others-length n [] = refl
 others-length n (a ∷ ts) = go (a.place == n) (others-length n ts)
   where
     go : (t : Bool) → length ts ≡ to_place n ts + length (others n ts)
-        → suc (length ts) ≡ one_if t + to_place n ts
+        → suc (length ts) ≡ count_if_passed t + to_place n ts
         + length (cond (not t) (a ∷ others n ts) (others n ts))
     go true ih = omega (arith, ih)
     go false ih = omega (arith, ih)
@@ -82,7 +82,7 @@ others-fewer m n (a ∷ ts) = go (a.place == n) (others-fewer m n ts)
   where
     go : (t : Bool) → to_place m (others n ts) ≤ to_place m ts
         → to_place m (cond (not t) (a ∷ others n ts) (others n ts))
-        ≤ one_if (a.place == m) + to_place m ts
+        ≤ count_if_passed (a.place == m) + to_place m ts
     go true ih = omega (arith, ih)
     go false ih = omega (arith, ih)
 
@@ -135,8 +135,8 @@ counts n (a ∷ ts) x (inr i) e = omega (arith, counts n ts x i e)
 
 -- answers to waiters in order of places, no two of which have the same place
 pub order-climbs : (k n : ℕ) (vs : List Waiter) → AreInOrder vs
-    → ((m : ℕ) → to_place m (map (passed_to k) vs) ≤ 1)
-    → Each (λ v. n ≤ v.place) vs → Climbs n (map (passed_to k) vs)
+    → ((m : ℕ) → to_place m (map (answer_to_earlier k) vs) ≤ 1)
+    → Each (λ v. n ≤ v.place) vs → Climbs n (map (answer_to_earlier k) vs)
 order-climbs k n [] r lone late = tt
 order-climbs k n (v ∷ vs) r lone late = (
   late.0,
@@ -144,7 +144,7 @@ order-climbs k n (v ∷ vs) r lone late = (
       (λ m. omega (arith, lone m)) (above vs r.0 (λ u i. i)),
 )
   where
-    own : one_if (v.place == v.place) ≡ 1
+    own : count_if_passed (v.place == v.place) ≡ 1
     own = rw (eq-eqb v.place v.place refl) refl
 
     later : (u : Waiter) → In u vs → v.place ≤ u.place → suc v.place ≤ u.place
@@ -153,8 +153,8 @@ order-climbs k n (v ∷ vs) r lone late = (
         arith,
         lone v.place,
         own,
-        counts v.place (map (passed_to k) vs) (passed_to k u)
-            (map-in (passed_to k) vs u i) (sym e),
+        counts v.place (map (answer_to_earlier k) vs) (answer_to_earlier k u)
+            (map-in (answer_to_earlier k) vs u i) (sym e),
       ))
       | inr (inl lt) ↦ omega (arith, lt)
       | inr (inr gt) ↦ absurd (omega (arith, gt, le))

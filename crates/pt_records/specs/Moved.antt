@@ -3,11 +3,11 @@ use Rattle.std.specs.Prelude.{ℕ, ◌≡◌, ◌⊎◌, Bool, true, false, List
 use Rattle.pt_table.specs.declared.clients.ClientRow.{ClientRow}
 use Rattle.pt_table.specs.ClientRows.{client_value}
 use Rattle.pt_table.specs.declared.objects.ObjectRow.{ObjectRow}
-use Rattle.pt_table.specs.Linked.{unlinked}
+use Rattle.pt_table.specs.Linked.{rows_without_links}
 use Rattle.pt_records.specs.declared.clients.Caller.{Caller}
 use Rattle.pt_records.specs.declared.objects.Object.{Object}
-use Rattle.pt_records.specs.Callers.{Once}
-use Rattle.pt_records.specs.Chained.{unowned}
+use Rattle.pt_records.specs.Callers.{HasDistinctNumbers}
+use Rattle.pt_records.specs.Chained.{rows_without_owned}
 use Rattle.pt_records.specs.Writes.{WritesCaller}
 
 -- how an object's row enters or leaves a chain: the rows and the head before, and those after
@@ -25,4 +25,5 @@ module _ {A : Type 0} where
       ⊎ ((must ≡ true) × (((v : Caller) → client_value clients c ≡ Some v
       → (head : Option ℕ) × (WritesCaller clients after c (record v { owned = head })
       × moves old new v.owned head m))
-      × ((unlinked new ≡ unlinked old) × (Once clients → unowned after ≡ unowned clients))))
+      × ((rows_without_links new ≡ rows_without_links old) × (HasDistinctNumbers clients
+      → rows_without_owned after ≡ rows_without_owned clients))))

@@ -5,44 +5,44 @@ use Rattle.std.specs.List.{AllByRecursion as Each}
 use Rattle.pt_types.specs.declared.call.ObjectKind.{ObjectKind}
 use Rattle.pt_types.specs.declared.call.ObjectKind.TheVariants as kind
 use Rattle.pt_table.specs.declared.objects.ObjectRow.{ObjectRow}
-use Rattle.pt_table.specs.ObjectRows.{object_value, number_of}
-use Rattle.pt_mutex.specs.MutexState.{MutexState, made as made_mutex}
-use Rattle.pt_rwlock.specs.RwlockState.{RwlockState, made as made_rwlock, reads_of, row_of}
+use Rattle.pt_table.specs.ObjectRows.{object_value, number_of_name}
+use Rattle.pt_mutex.specs.MutexState.{MutexState, new_mutex}
+use Rattle.pt_rwlock.specs.RwlockState.{RwlockState, new_rwlock, reads_of, reads_in_row}
 use Rattle.pt_model.specs.Histories.{History, place}
-use Rattle.pt_model.specs.Objects.{kind_of, object_named, objects}
+use Rattle.pt_model.specs.Objects.{kind_of, object_named, object_count}
 use Rattle.pt_model.specs.declared.waiting_call.WaitingCall.{WaitingCall}
 use Rattle.pt_model.specs.declared.waiting_call.Role.TheVariants.{ForRead}
 use Rattle.pt_model.specs.Searches.{In}
 use Rattle.pt_model.specs.Answers.{open_calls}
 use Rattle.pt_model.specs.Mutexes.{mutex_view}
-use Rattle.pt_model.specs.Rwlocks.{writer, reads}
+use Rattle.pt_model.specs.Rwlocks.{write_holder, read_count}
 use Rattle.pt_records.specs.declared.objects.Object.{Object}
 use Rattle.pt_records.specs.declared.objects.Object.TheVariants.{Mutex, Rwlock, Cond, Barrier}
 
 -- a mutex's row is as it is read off the history  [XSH 2.9.3]
 abbrev pub IsMutex : History → ℕ → MutexState → Type 0
-IsMutex h o m = (m.seen ≡ mutex_view h o) × (m.bound_waits ≡ 0)
+IsMutex h o m = (m.view ≡ mutex_view h o) × (m.bound_waits ≡ 0)
 
 -- a read-write lock's row is as it is read off the history, and each client whose call for a read
 -- lock waits there has a row in it  [XSH 2.9]
 pub record IsRwlock (h : History) (o : ℕ) (r : RwlockState) : Type 0 where
-  pub writer : r.writer ≡ writer h o
-  pub reads : (c : ℕ) → reads_of r c ≡ reads h o c
+  pub writer : r.writer ≡ write_holder h o
+  pub reads : (c : ℕ) → reads_of r c ≡ read_count h o c
   pub rows : (w : WaitingCall) → In w (open_calls h) → w.role ≡ ForRead → w.object ≡ o
-      → is_some (row_of r w.client) ≡ true
+      → is_some (reads_in_row r w.client) ≡ true
 
 module _ {A : Type 0} where
   -- the kind that an object was made with  [XSH 2.9]
   abbrev pub kind_in_row : Object A → ObjectKind
-  kind_in_row (Mutex m) = kind.Mutex m.seen.kind m.seen.robust
+  kind_in_row (Mutex m) = kind.Mutex m.view.kind m.view.robust
   kind_in_row (Rwlock r) = kind.Rwlock
   kind_in_row (Cond q) = kind.Cond
   kind_in_row (Barrier count) = kind.Barrier count
 
   -- the object is one of this kind as it is made  [XSH pthread_mutex_init, pthread_cond_init]
   abbrev pub IsNew : Object A → ObjectKind → Type 0
-  IsNew (Mutex m) (kind.Mutex k robust) = m ≡ made_mutex k robust
-  IsNew (Rwlock r) kind.Rwlock = r ≡ made_rwlock
+  IsNew (Mutex m) (kind.Mutex k robust) = m ≡ new_mutex k robust
+  IsNew (Rwlock r) kind.Rwlock = r ≡ new_rwlock
   IsNew (Cond q) kind.Cond = q ≡ record { bound = None }
   IsNew (Barrier count) (kind.Barrier n) = count ≡ n
   IsNew _ _ = ⊥
@@ -60,8 +60,8 @@ module _ {A : Type 0} where
     pub rwlocks : (o : ℕ) (r : RwlockState) → look o ≡ Some (Rwlock r) → IsRwlock h o r
 
   -- the rows are those of the objects that exist
-  pub record AreObjects (h : History) (rows : List (ObjectRow (Object A))) : Type 0 where
+  pub record AreObjectRows (h : History) (rows : List (ObjectRow (Object A))) : Type 0 where
     pub look : ObjectsLook h (object_value rows)
-    pub names : (n : List ℕ) → number_of rows n ≡ option_map (λ x. x.number) (object_named h n)
+    pub names : (n : List ℕ) → number_of_name rows n ≡ option_map (λ x. x.number) (object_named h n)
     pub rising : Rising rows (place h)
-    pub many : length rows ≡ objects h
+    pub many : length rows ≡ object_count h

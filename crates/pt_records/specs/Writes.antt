@@ -8,20 +8,21 @@ use Rattle.pt_table.specs.declared.objects.ObjectRow.{ObjectRow}
 use Rattle.pt_table.specs.ClientRows.{client_value}
 use Rattle.pt_types.specs.declared.call.ObjectKind.{ObjectKind}
 use Rattle.pt_types.specs.declared.call.ObjectKind.TheVariants as kind
-use Rattle.pt_types.specs.MutexTable.{is_number}
+use Rattle.pt_types.specs.MutexTable.{is_some_number}
 use Rattle.pt_types.specs.Names.{same_name}
-use Rattle.pt_table.specs.ObjectRows.{object_value, object_named, number_of}
+use Rattle.pt_table.specs.ObjectRows.{object_value, row_with_name, number_of_name}
 use Rattle.pt_table.specs.Linked.{is_linked}
-use Rattle.pt_mutex.specs.MutexState.{made as new_mutex}
-use Rattle.pt_rwlock.specs.RwlockState.{made as new_rwlock}
+use Rattle.pt_mutex.specs.MutexState.{new_mutex}
+use Rattle.pt_rwlock.specs.RwlockState.{new_rwlock}
 use Rattle.pt_model.specs.declared.entry.Cause.{Cause}
-use Rattle.pt_model.specs.Records.{Told}
-use Rattle.pt_model.specs.WaitingCall.{is_arrival, is_wait}
+use Rattle.pt_model.specs.Records.{ReplyView}
+use Rattle.pt_model.specs.WaitingCall.{is_barrier_wait, is_cond_wait}
 use Rattle.pt_records.specs.declared.clients.Caller.{Caller}
 use Rattle.pt_records.specs.declared.clients.Open.{Open}
 use Rattle.pt_records.specs.declared.objects.Object.{Object}
 use Rattle.pt_records.specs.declared.objects.Object.TheVariants.{Mutex, Rwlock, Cond, Barrier}
-use Rattle.pt_records.specs.Callers.{Once, has_open, closed, moved_at}
+use Rattle.pt_records.specs.Callers.{HasDistinctNumbers, has_open, caller_after_answer}
+use Rattle.pt_records.specs.Callers.{caller_after_move}
 use Rattle.pt_records.specs.Chained.{KeepsChains}
 use Rattle.pt_records.specs.Logs.{outcome_in_log}
 use Rattle.pt_records.specs.Objects.{Rising}
@@ -30,25 +31,25 @@ use Rattle.pt_records.specs.Objects.{Rising}
 pub record WritesCaller (old new : List (ClientRow Caller)) (c : ℕ) (v : Caller) : Type 0 where
   pub look : (d : ℕ) → client_value new d ≡ if c == d then Some v else client_value old d
   pub many : length new ≡ length old
-  pub once : Once old → Once new
+  pub once : HasDistinctNumbers old → HasDistinctNumbers new
 
 -- a client gets its row, and the others stay the same
 pub record AddsCaller (old new : List (ClientRow Caller)) (c : ℕ) (v : Caller) : Type 0 where
   pub look : (d : ℕ) → client_value new d ≡ if c == d then Some v else client_value old d
   pub many : length new ≡ length old + 1
-  pub once : Once old → Once new
+  pub once : HasDistinctNumbers old → HasDistinctNumbers new
 
 -- a client's row is removed, and the others stay the same
 pub record RemovesCaller (old new : List (ClientRow Caller)) (c : ℕ) : Type 0 where
   pub look : (d : ℕ) → client_value new d ≡ if c == d then None else client_value old d
-  pub many : Once old → length new + 1 ≡ length old
-  pub once : Once old → Once new
+  pub many : HasDistinctNumbers old → length new + 1 ≡ length old
+  pub once : HasDistinctNumbers old → HasDistinctNumbers new
 
 -- each row has what g makes of its old value
 pub record RewritesCallers (old new : List (ClientRow Caller)) (g : Caller → Caller) : Type 0 where
   pub look : (d : ℕ) → client_value new d ≡ option_map g (client_value old d)
   pub many : length new ≡ length old
-  pub once : Once old → Once new
+  pub once : HasDistinctNumbers old → HasDistinctNumbers new
 
 -- the rows, with the one at an index changed by g
 abbrev pub rewritten_nth : (Caller → Caller) → List (ClientRow Caller) → ℕ → List (ClientRow Caller)
@@ -57,13 +58,13 @@ rewritten_nth g (row ∷ rows) zero = record row { value = g row.value } ∷ row
 rewritten_nth g (row ∷ rows) (suc i) = row ∷ rewritten_nth g rows i
 
 -- whether an open call waits at the barrier  [XSH pthread_barrier_wait]
-abbrev pub arrived_at : ℕ → Open → Bool
-arrived_at b o = is_arrival o.call.role && (o.call.object == b)
+abbrev pub waits_at_barrier : ℕ → Open → Bool
+waits_at_barrier b o = is_barrier_wait o.call.role && (o.call.object == b)
 
 -- whether an open call is a wait at the condition that has not been moved  [XSH pthread_cond_wait]
-abbrev pub still_waits_at : ℕ → Open → Bool
-still_waits_at q o =
-    is_wait o.call.role && (is_none o.moved && (q == o.call.object))
+abbrev pub is_unmoved_at : ℕ → Open → Bool
+is_unmoved_at q o =
+    is_cond_wait o.call.role && (is_none o.moved && (q == o.call.object))
 
 -- the client's row, if it has one, has what g makes of its old value, and the others stay the same
 pub record ChangesCaller (old new : List (ClientRow Caller)) (c : ℕ) (g : Caller → Caller) : Type 0
@@ -71,31 +72,33 @@ pub record ChangesCaller (old new : List (ClientRow Caller)) (c : ℕ) (g : Call
     pub look : (d : ℕ) → client_value new d
         ≡ if c == d then option_map g (client_value old d) else client_value old d
     pub many : length new ≡ length old
-    pub once : Once old → Once new
+    pub once : HasDistinctNumbers old → HasDistinctNumbers new
 
 -- the outcome of these answers for the open call in a row
-abbrev pub answer_to_open : List (ℕ × Told) → Caller → Option Outcome
+abbrev pub answer_to_open : List (ℕ × ReplyView) → Caller → Option Outcome
 answer_to_open log v = option_and_then (λ o. outcome_in_log log o.call.place) v.open
 
 -- a row after the calls at the barrier got these answers  [XSH pthread_barrier_wait]
-abbrev pub closed_at : ℕ → List (ℕ × Told) → Caller → Caller
-closed_at b log v = if has_open (arrived_at b) v then closed (answer_to_open log v) v else v
+abbrev pub caller_after_trip : ℕ → List (ℕ × ReplyView) → Caller → Caller
+caller_after_trip b log v = if has_open (waits_at_barrier b) v then caller_after_answer
+    (answer_to_open log v) v else v
 
 -- a row after the entry at place k broadcasts at the condition  [XSH pthread_cond_broadcast]
-abbrev pub woken_at : ℕ → ℕ → Cause → Caller → Caller
-woken_at q k cause v = if has_open (still_waits_at q) v then moved_at k cause v else v
+abbrev pub caller_after_broadcast : ℕ → ℕ → Cause → Caller → Caller
+caller_after_broadcast q k cause v = if has_open
+    (is_unmoved_at q) v then caller_after_move k cause v else v
 
 module _ {A : Type 0} where
   -- no two rows have the same name
   abbrev pub NamesOnce : List (ObjectRow (Object A)) → Type 0
   NamesOnce [] = Unit {0}
-  NamesOnce (row ∷ rows) = (object_named rows row.name ≡ None) × NamesOnce rows
+  NamesOnce (row ∷ rows) = (row_with_name rows row.name ≡ None) × NamesOnce rows
 
   -- one object's row is written, and the others stay the same
   pub record WritesObject (old new : List (ObjectRow (Object A))) (o : ℕ) (x : Object A) :
       Type 0 where
     pub look : (p : ℕ) → object_value new p ≡ if o == p then Some x else object_value old p
-    pub names : (n : List ℕ) → number_of new n ≡ number_of old n
+    pub names : (n : List ℕ) → number_of_name new n ≡ number_of_name old n
     pub rising : (k : ℕ) → Rising old k → Rising new k
     pub many : length new ≡ length old
     pub once : NamesOnce old → NamesOnce new
@@ -105,7 +108,7 @@ module _ {A : Type 0} where
       (x : Object A) : Type 0 where
     pub look : (p : ℕ) → object_value new p ≡ if o == p then Some x else object_value old p
     pub names : (n : List ℕ)
-        → number_of new n ≡ if same_name name n then Some o else number_of old n
+        → number_of_name new n ≡ if same_name name n then Some o else number_of_name old n
     pub rising : Rising new (o + 1)
     pub many : length new ≡ length old + 1
     pub once : NamesOnce old → NamesOnce new
@@ -116,7 +119,8 @@ module _ {A : Type 0} where
   pub record RemovesObject (old new : List (ObjectRow (Object A))) (o : ℕ) : Type 0 where
     pub look : (p : ℕ) → object_value new p ≡ if o == p then None else object_value old p
     pub names : NamesOnce old → (n : List ℕ)
-        → number_of new n ≡ if is_number (number_of old n) o then None else number_of old n
+        → number_of_name new n ≡ if is_some_number
+        (number_of_name old n) o then None else number_of_name old n
     pub rising : (k : ℕ) → Rising old k → Rising new k
     pub many : (k : ℕ) → Rising old k → length new + 1 ≡ length old
     pub once : NamesOnce old → NamesOnce new

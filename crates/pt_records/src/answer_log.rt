@@ -23,17 +23,18 @@ pub struct AnswerLog<A: Allocator + Copy = Global> {
 
 impl<A: Allocator + Copy> Model for AnswerLog<A> {
     ghost use Rattle.std.specs.Prelude.{◌+◌, vec_len};
-    ghost use Rattle.pt_records.specs.AnswerLogs.{AreReadable, HasRoom, StoredLog, lengthened_all};
+    ghost use Rattle.pt_records.specs.AnswerLogs.{AreReadable, HasLogRoom, StoredLog};
+    ghost use Rattle.pt_records.specs.AnswerLogs.{answers_of_shorts};
 
     ghost Value = { StoredLog };
 
     ghost view = { λ l. record {
-      items = lengthened_all l.base l.wholes.items l.shorts.items;
+      items = answers_of_shorts l.base l.wholes.items l.shorts.items;
       capacity = vec_len l.shorts + l.room;
     } };
 
     ghost invariant = { λ l. AreReadable l.base l.wholes.items l.shorts.items
-        × HasRoom l.shorts l.wholes l.room };
+        × HasLogRoom l.shorts l.wholes l.room };
 }
 
 /// The remaining answers of a log, which are returned one after another.
@@ -47,11 +48,11 @@ pub struct LoggedAnswers<'a> {
 impl<'a> Model for LoggedAnswers<'a> {
     ghost use Rattle.std.specs.Prelude.{List};
     ghost use Rattle.pt_records.specs.declared.answers.Answered.{Answered};
-    ghost use Rattle.pt_records.specs.AnswerLogs.{AreReadable, lengthened_all};
+    ghost use Rattle.pt_records.specs.AnswerLogs.{AreReadable, answers_of_shorts};
 
     ghost Value = { List Answered };
 
-    ghost view = { λ l. lengthened_all l.base l.wholes.now l.shorts.now };
+    ghost view = { λ l. answers_of_shorts l.base l.wholes.now l.shorts.now };
 
     ghost invariant = { λ l. AreReadable l.base l.wholes.now l.shorts.now };
 }
@@ -129,7 +130,7 @@ impl<A: Allocator + Copy> AnswerLog<A> {
         ensures items { self.new.items ≡ self.old.items }
         ensures capacity { self.old.capacity ≤ self.new.capacity }
         ensures ok { OnOk result (length self.new.items + many ≤ self.new.capacity) }
-        ensures enough { length self.old.items + many ≤ self.old.capacity → IsOk result }
+        ensures succeeds_if { length self.old.items + many ≤ self.old.capacity → IsOk result }
     {
         if many <= self.room {
             return Ok(());

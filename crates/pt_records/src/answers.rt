@@ -2,7 +2,7 @@
 
 ghost use Rattle.std.specs.Prelude.{[], ◌==◌, ◌++◌, ◌+◌, ◌<◌, ◌∷◌, ◌≡◌, ◌≤◌, drop, find, length};
 ghost use Rattle.std.specs.Prelude.{map, option_map};
-ghost use Rattle.pt_records.specs.Logs.{Rises, first_said, logged, since};
+ghost use Rattle.pt_records.specs.Logs.{HasRisingPlaces, first_outcome_to, log_entry, log_since};
 
 use crate::answer_log::{AnswerLog, LoggedAnswers};
 use pt_types::{ClientId, Outcome};
@@ -22,10 +22,10 @@ pub struct Answered {
 /// Returns the index at which the answers begin that the entries from a place on gave. The search
 /// starts at the end of the log.
 pub fn answered_since<A: Allocator + Copy>(answers: &AnswerLog<A>, place: u64) -> usize
-    requires { Rises 0 (map logged answers.now.items) }
+    requires { HasRisingPlaces 0 (map log_entry answers.now.items) }
     ensures within { result ≤ length answers.now.items }
-    ensures rest { map logged (drop result answers.now.items)
-        ≡ since place (map logged answers.now.items) }
+    ensures rest { map log_entry (drop result answers.now.items)
+        ≡ log_since place (map log_entry answers.now.items) }
 {
     let mut i = answers.len();
     while i > 0 {
@@ -40,10 +40,10 @@ pub fn answered_since<A: Allocator + Copy>(answers: &AnswerLog<A>, place: u64) -
 /// Returns the index at which the answers begin that the entries from a place on gave, by a binary
 /// search.
 pub fn halved_since<A: Allocator + Copy>(answers: &AnswerLog<A>, place: u64) -> usize
-    requires { Rises 0 (map logged answers.now.items) }
+    requires { HasRisingPlaces 0 (map log_entry answers.now.items) }
     ensures within { result ≤ length answers.now.items }
-    ensures rest { map logged (drop result answers.now.items)
-        ≡ since place (map logged answers.now.items) }
+    ensures rest { map log_entry (drop result answers.now.items)
+        ≡ log_since place (map log_entry answers.now.items) }
 {
     let mut low = 0;
     let mut high = answers.len();
@@ -73,8 +73,8 @@ fn first_outcome(mut answers: LoggedAnswers<'_>, place: u64) -> Option<Outcome>
 /// Returns the outcome of the first answer to the call at a place, among the answers that the
 /// entries from that place on gave.
 pub fn outcome_since<A: Allocator + Copy>(answers: &AnswerLog<A>, place: u64) -> Option<Outcome>
-    requires { Rises 0 (map logged answers.now.items) }
-    ensures { result ≡ first_said (since place (map logged answers.now.items)) place }
+    requires { HasRisingPlaces 0 (map log_entry answers.now.items) }
+    ensures { result ≡ first_outcome_to (log_since place (map log_entry answers.now.items)) place }
 {
     let from = halved_since(answers, place);
     first_outcome(answers.from(from), place)
@@ -84,8 +84,8 @@ pub fn outcome_since<A: Allocator + Copy>(answers: &AnswerLog<A>, place: u64) ->
 /// entries from that place on gave. The search starts at the end of the log, so this is for recent
 /// calls.
 pub fn recent_outcome<A: Allocator + Copy>(answers: &AnswerLog<A>, place: u64) -> Option<Outcome>
-    requires { Rises 0 (map logged answers.now.items) }
-    ensures { result ≡ first_said (since place (map logged answers.now.items)) place }
+    requires { HasRisingPlaces 0 (map log_entry answers.now.items) }
+    ensures { result ≡ first_outcome_to (log_since place (map log_entry answers.now.items)) place }
 {
     let from = answered_since(answers, place);
     first_outcome(answers.from(from), place)
@@ -95,8 +95,8 @@ pub fn recent_outcome<A: Allocator + Copy>(answers: &AnswerLog<A>, place: u64) -
 #[inline(always)]
 pub fn tell<A: Allocator + Copy>(answers: &mut AnswerLog<A>, answer: Answered)
     requires { length answers.old.items < answers.old.capacity }
-    ensures told { map logged answers.new.items
-        ≡ map logged answers.old.items ++ logged answer ∷ [] }
+    ensures replies { map log_entry answers.new.items
+        ≡ map log_entry answers.old.items ++ log_entry answer ∷ [] }
     ensures len { length answers.new.items ≡ length answers.old.items + 1 }
     ensures capacity { answers.new.capacity ≡ answers.old.capacity }
 {

@@ -2,15 +2,16 @@
 
 ghost use Rattle.std.specs.Prelude.{◌++◌, ◌+◌, ◌≡◌, ◌≤◌, length, map};
 ghost use Rattle.pt_records.specs.Callers.{AreCallers};
-ghost use Rattle.pt_records.specs.Writes.{ChangesCaller, RewritesCallers, closed_at};
+ghost use Rattle.pt_records.specs.Writes.{ChangesCaller, RewritesCallers, caller_after_trip};
 ghost use Rattle.pt_model.specs.Histories.{place};
-ghost use Rattle.pt_records.specs.Arrivals.{AreArrivals, ClosesBy, Empties, answer_to, closed_by};
-ghost use Rattle.pt_records.specs.Arrivals.{passed_to, with_serial};
-ghost use Rattle.pt_records.specs.Logs.{logged, told_at};
+ghost use Rattle.pt_records.specs.Arrivals.{AreArrivals, ClosesBy, Empties, answer_to};
+ghost use Rattle.pt_records.specs.Arrivals.{caller_after_reply};
+ghost use Rattle.pt_records.specs.Arrivals.{answer_to_earlier, with_serial};
+ghost use Rattle.pt_records.specs.Logs.{log_entry, replies_with_place};
 ghost use Rattle.pt_model.specs.declared.entry.Entry.{Entry as AnyEntry};
-ghost use Rattle.pt_model.specs.Answers.{at_barrier, open_calls, told};
+ghost use Rattle.pt_model.specs.Answers.{at_barrier, open_calls, entry_replies};
 ghost use Rattle.pt_model.specs.Steps.{Follows};
-ghost use Rattle.pt_history.specs.Stored.{past_of};
+ghost use Rattle.pt_history.specs.Stored.{stored_history};
 
 use crate::answer_log::AnswerLog;
 use crate::answers::Answered;
@@ -41,7 +42,8 @@ fn answer_to(at: u64, waiter: &Waiter, is_last: bool) -> Answered
 
 // Closes the open call that an answer is to, and stores the answer in its client's row.
 fn close_by<A: Allocator + Copy>(clients: &mut Clients<Caller, A>, answer: &Answered)
-    ensures { ChangesCaller clients.old clients.new «answer».now.client (closed_by answer.now) }
+    ensures { ChangesCaller clients.old clients.new «answer».now.client
+        (caller_after_reply answer.now) }
 {
     if let Some(row) = clients.at_mut(answer.client.0) {
         row.open = None;
@@ -51,7 +53,7 @@ fn close_by<A: Allocator + Copy>(clients: &mut Clients<Caller, A>, answer: &Answ
 
 // Answers each waiter of a queue, in the order of the queue, and removes it from the queue. Each
 // call is closed, and its client's row has the answer.
-fn tell_queue<Q: WaitList, A: Allocator + Copy>(
+fn log_trip<Q: WaitList, A: Allocator + Copy>(
     clients: &mut Clients<Caller, A>,
     queues: &mut Q,
     answers: &mut AnswerLog<A>,
@@ -60,11 +62,11 @@ fn tell_queue<Q: WaitList, A: Allocator + Copy>(
 )
     requires { length answers.old.items + length ((Q.seen queues.old).queue b)
         ≤ answers.old.capacity }
-    ensures told { answers.new.items ≡ answers.old.items
-        ++ with_serial (map (passed_to at) ((Q.seen queues.old).queue b)) }
+    ensures replies { answers.new.items ≡ answers.old.items
+        ++ with_serial (map (answer_to_earlier at) ((Q.seen queues.old).queue b)) }
     ensures capacity { answers.new.capacity ≡ answers.old.capacity }
     ensures closed { ClosesBy clients.old clients.new
-        (with_serial (map (passed_to at) ((Q.seen queues.old).queue b))) }
+        (with_serial (map (answer_to_earlier at) ((Q.seen queues.old).queue b))) }
     ensures emptied { Empties b (Q.seen queues.old) (Q.seen queues.new) }
 {
     let mut left = queues.len(b);
@@ -86,18 +88,19 @@ pub fn trip<Q: WaitList, A: Allocator + Copy>(
     answers: &mut AnswerLog<A>,
     b: ObjectId,
 )
-    requires follows { Follows (past_of history.now) }
-    requires callers { AreCallers (past_of history.now) clients.old }
-    requires arrived { AreArrivals (past_of history.now) b ((Q.seen queues.old).queue b) }
+    requires follows { Follows (stored_history history.now) }
+    requires callers { AreCallers (stored_history history.now) clients.old }
+    requires arrived { AreArrivals (stored_history history.now) b ((Q.seen queues.old).queue b) }
     requires room { length answers.old.items
-        + length (at_barrier b (open_calls (past_of history.now))) ≤ answers.old.capacity }
-    ensures told { let past = past_of history.now in
-        map logged answers.new.items
-        ≡ map logged answers.old.items ++ told_at (place past) (told past (AnyEntry.Trip b)) }
+        + length (at_barrier b (open_calls (stored_history history.now))) ≤ answers.old.capacity }
+    ensures replies { let before = stored_history history.now in
+        map log_entry answers.new.items
+        ≡ map log_entry answers.old.items
+        ++ replies_with_place (place before) (entry_replies before (AnyEntry.Trip b)) }
     ensures capacity { answers.new.capacity ≡ answers.old.capacity }
     ensures closed { RewritesCallers clients.old clients.new
-        (closed_at b (map logged answers.new.items)) }
+        (caller_after_trip b (map log_entry answers.new.items)) }
     ensures emptied { Empties b (Q.seen queues.old) (Q.seen queues.new) }
 {
-    tell_queue(clients, queues, answers, history.len(), b);
+    log_trip(clients, queues, answers, history.len(), b);
 }

@@ -3,9 +3,9 @@
 ghost use Rattle.std.specs.Prelude.{None, Some, ◌<◌, ◌≡◌, ◌≤◌, is_some, true};
 ghost use Rattle.pt_table.specs.ClientRows.{client_value, has_client, nth_value};
 ghost use Rattle.pt_records.specs.Writes.{WritesCaller};
-ghost use Rattle.pt_records.specs.Arrivals.{arrived};
-ghost use Rattle.pt_records.specs.Callers.{closed, open_in};
-ghost use Rattle.pt_records.specs.Counts.{counted, reserved_open};
+ghost use Rattle.pt_records.specs.Arrivals.{caller_after_arrival};
+ghost use Rattle.pt_records.specs.Callers.{caller_after_answer, open_in};
+ghost use Rattle.pt_records.specs.Counts.{count_or_zero, reserved_open};
 ghost use Rattle.pt_records.specs.OpenRows.{object_of};
 
 use crate::clients::{Caller, Open};
@@ -15,7 +15,7 @@ use pt_types::{ClientId, Clock, ObjectId, Outcome};
 use std::alloc::Allocator;
 
 /// Stores the call at this place as its client's latest call, which is open.
-pub fn stand<A: Allocator + Copy>(
+pub fn open_waiting_call<A: Allocator + Copy>(
     clients: &mut Clients<Caller, A>,
     c: ClientId,
     open: Open,
@@ -44,7 +44,7 @@ pub fn arrive<A: Allocator + Copy>(
 )
     requires { has_client clients.old c ≡ true }
     ensures { (v : Caller) → client_value clients.old c ≡ Some v
-        → WritesCaller clients.old clients.new c (arrived place c b clock v) }
+        → WritesCaller clients.old clients.new c (caller_after_arrival place c b clock v) }
 {
     if let Some(row) = clients.at_mut(c.0) {
         row.open = Some(Open {
@@ -68,7 +68,7 @@ pub fn arrive<A: Allocator + Copy>(
 pub fn close<A: Allocator + Copy>(clients: &mut Clients<Caller, A>, c: ClientId, answer: Outcome)
     requires { has_client clients.old c ≡ true }
     ensures { (v : Caller) → client_value clients.old c ≡ Some v
-        → WritesCaller clients.old clients.new c (closed (Some answer) v) }
+        → WritesCaller clients.old clients.new c (caller_after_answer (Some answer) v) }
 {
     if let Some(row) = clients.at_mut(c.0) {
         row.open = None;
@@ -78,8 +78,8 @@ pub fn close<A: Allocator + Copy>(clients: &mut Clients<Caller, A>, c: ClientId,
 
 /// Returns the number of entries reserved for an open call, or 0 if there is none.
 pub fn reserved_by(open: Option<Open>) -> u64
-    ensures value { result ≡ counted reserved_open «open» }
-    ensures small { result ≤ 3 }
+    ensures value { result ≡ count_or_zero reserved_open «open» }
+    ensures within { result ≤ 3 }
 {
     match open {
         Some(o) => match o.moved {
@@ -108,7 +108,7 @@ pub fn is_moved(open: &Open) -> bool
 }
 
 /// Returns the object at which an open call waits.  [XSH pthread_cond_broadcast]
-pub fn at_object(open: &Open) -> ObjectId
+pub fn wait_object(open: &Open) -> ObjectId
     ensures { result ≡ object_of «open».now }
 {
     match open.call.role {

@@ -3,9 +3,9 @@
 
 ghost use Rattle.std.specs.Prelude.{IfErr, OnErr, OnOk, Some, ◌<◌, ◌≡◌, false, length, true};
 ghost use Rattle.pt_table.specs.ClientRows.{client_value, has_client};
-ghost use Rattle.pt_records.specs.Callers.{called_at};
+ghost use Rattle.pt_records.specs.Callers.{caller_after_call};
 ghost use Rattle.pt_records.specs.Writes.{AddsCaller, RemovesCaller, WritesCaller};
-ghost use Rattle.pt_types.specs.Limits.{most_clients};
+ghost use Rattle.pt_types.specs.Limits.{max_clients};
 
 use pt_model::waiting_call::{Move, WaitingCall};
 use pt_table::Clients;
@@ -22,7 +22,7 @@ pub fn note_call<A: Allocator + Copy>(
 )
     requires { has_client clients.old c ≡ true }
     ensures { (v : Caller) → client_value clients.old c ≡ Some v
-        → WritesCaller clients.old clients.new c (called_at place (Some answer) v) }
+        → WritesCaller clients.old clients.new c (caller_after_call place (Some answer) v) }
 {
     if let Some(row) = clients.at_mut(c.0) {
         row.latest = Some(place);
@@ -37,10 +37,10 @@ pub fn admit<A: Allocator + Copy>(
     caller: Caller,
 ) -> Result<(), Refusal>
     requires new { has_client clients.old c ≡ false }
-    requires room { length clients.old < most_clients }
+    requires room { length clients.old < max_clients }
     ensures ok { OnOk result (AddsCaller clients.old clients.new c caller) }
-    ensures err { OnErr result (clients.new ≡ clients.old) }
-    ensures reason { IfErr result (λ refusal. refusal ≡ Refusal.Enomem) }
+    ensures unchanged { OnErr result (clients.new ≡ clients.old) }
+    ensures err { IfErr result (λ refusal. refusal ≡ Refusal.Enomem) }
 {
     match clients.add(c.0, caller) {
         Ok(()) => Ok(()),

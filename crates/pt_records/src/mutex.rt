@@ -2,27 +2,28 @@
 
 ghost use Rattle.std.specs.Prelude.{IsSome, IsTrue, List, None, Option, Some, ◌+◌, ◌<◌, ◌≡◌, true};
 ghost use Rattle.std.specs.Prelude.{false};
-ghost use Rattle.pt_model.specs.Found.{passes};
+ghost use Rattle.pt_model.specs.Found.{is_some_and};
 ghost use Rattle.pt_records.specs.Chained.{is_robust_free};
 ghost use Rattle.std.specs.Prelude.{ℕ};
 ghost use Rattle.pt_records.specs.Counts.{is_last_lock};
-ghost use Rattle.pt_types.specs.MutexTable.{lock_verdict as lock_table, may_lock as may_lock_it};
+ghost use Rattle.pt_types.specs.MutexTable.{lock_verdict as lock_table, can_grant_mutex};
 ghost use Rattle.pt_types.specs.MutexTable.{owns};
-ghost use Rattle.pt_mutex.specs.MutexState.{MutexState, acquired, can_acquire, released, restored};
-ghost use Rattle.pt_mutex.specs.MutexState.{yielded};
+ghost use Rattle.pt_mutex.specs.MutexState.{MutexState, mutex_after_acquire, can_acquire};
+ghost use Rattle.pt_mutex.specs.MutexState.{mutex_after_release, mutex_after_consistent};
+ghost use Rattle.pt_mutex.specs.MutexState.{mutex_after_yield};
 ghost use Rattle.pt_table.specs.ObjectRows.{object_value};
 ghost use Rattle.pt_records.specs.LocksInRows.{mutex_in};
 ghost use Rattle.pt_records.specs.declared.objects.Object.TheVariants.{Mutex};
 ghost use Rattle.pt_table.specs.declared.clients.ClientRow.{ClientRow};
 ghost use Rattle.pt_table.specs.ClientRows.{has_client};
 ghost use Rattle.pt_records.specs.declared.clients.Caller.{Caller};
-ghost use Rattle.pt_records.specs.Callers.{Once};
-ghost use Rattle.pt_records.specs.Chained.{AreChained, KeepsChains, unowned};
+ghost use Rattle.pt_records.specs.Callers.{HasDistinctNumbers};
+ghost use Rattle.pt_records.specs.Chained.{AreChained, KeepsChains, rows_without_owned};
 ghost use Rattle.pt_records.specs.Writes.{WritesObject};
 
 use crate::clients::Caller;
 use crate::objects::Object;
-use crate::owned::{hold, let_go};
+use crate::owned::{hold, unlink_owned};
 use pt_mutex::MutexObj;
 use pt_table::{Clients, Objects};
 use pt_types::{ClientId, Consistency, How, ObjectId, Verdict};
@@ -42,8 +43,8 @@ pub fn is_last<A: Allocator + Copy>(object: &Object<A>, c: ClientId) -> bool
 /// Returns whether nothing but the order of calls keeps a call from a mutex: the mutex is not
 /// recoverable, or it has no owner.  [XSH pthread_mutex_unlock]
 #[inline(always)]
-pub fn may_lock(mutex: &MutexObj) -> bool
-    ensures { result ≡ may_lock_it mutex.now.seen true }
+pub fn can_grant_mutex(mutex: &MutexObj) -> bool
+    ensures { result ≡ can_grant_mutex mutex.now.view true }
 {
     mutex.consistency() == Consistency::NotRecoverable || mutex.owner().is_none()
 }
@@ -52,9 +53,9 @@ pub fn may_lock(mutex: &MutexObj) -> bool
 /// it waits until its Grant.  [XSH pthread_mutex_lock]
 #[inline(always)]
 pub fn lock_verdict(m: &MutexObj, c: ClientId, how: &How) -> Verdict
-    ensures { result ≡ lock_table m.now.seen c how.now }
+    ensures { result ≡ lock_table m.now.view c how.now }
 {
-    if may_lock(m) {
+    if can_grant_mutex(m) {
         return Verdict::Stands;
     }
     match how {
@@ -67,11 +68,12 @@ pub fn lock_verdict(m: &MutexObj, c: ClientId, how: &How) -> Verdict
 // Counts one more lock of the client on the mutex.  [XSH pthread_mutex_lock]
 #[inline(always)]
 fn lock<A: Allocator + Copy>(objects: &mut Objects<Object<A>, A>, m: ObjectId, c: ClientId)
-    requires there { IsSome (mutex_in (object_value objects.old m)) }
-    requires may { (x : MutexState) → object_value objects.old m ≡ Some (Mutex x)
-        → IsTrue (can_acquire x.seen c) }
+    requires exists { IsSome (mutex_in (object_value objects.old m)) }
+    requires allowed { (x : MutexState) → object_value objects.old m ≡ Some (Mutex x)
+        → IsTrue (can_acquire x.view c) }
     ensures mutex { (x : MutexState) → object_value objects.old m ≡ Some (Mutex x)
-        → WritesObject objects.old objects.new m (Mutex (record x { seen = acquired x.seen c })) }
+        → WritesObject objects.old objects.new m (Mutex
+        (record x { view = mutex_after_acquire x.view c })) }
     ensures chains { (x : MutexState) → object_value objects.old m ≡ Some (Mutex x)
         → KeepsChains objects.old objects.new }
 {
@@ -85,11 +87,12 @@ fn lock<A: Allocator + Copy>(objects: &mut Objects<Object<A>, A>, m: ObjectId, c
 // Counts one fewer lock of the client on the mutex.  [XSH pthread_mutex_unlock]
 #[inline(always)]
 fn unlock<A: Allocator + Copy>(objects: &mut Objects<Object<A>, A>, m: ObjectId, c: ClientId)
-    requires there { IsSome (mutex_in (object_value objects.old m)) }
+    requires exists { IsSome (mutex_in (object_value objects.old m)) }
     requires owned { (x : MutexState) → object_value objects.old m ≡ Some (Mutex x)
-        → IsTrue (owns x.seen c) }
+        → IsTrue (owns x.view c) }
     ensures mutex { (x : MutexState) → object_value objects.old m ≡ Some (Mutex x)
-        → WritesObject objects.old objects.new m (Mutex (record x { seen = released x.seen })) }
+        → WritesObject objects.old objects.new m (Mutex
+        (record x { view = mutex_after_release x.view })) }
     ensures chains { (x : MutexState) → object_value objects.old m ≡ Some (Mutex x)
         → KeepsChains objects.old objects.new }
 {
@@ -104,7 +107,8 @@ fn unlock<A: Allocator + Copy>(objects: &mut Objects<Object<A>, A>, m: ObjectId,
 fn free<A: Allocator + Copy>(objects: &mut Objects<Object<A>, A>, m: ObjectId)
     requires { IsSome (mutex_in (object_value objects.old m)) }
     ensures mutex { (x : MutexState) → object_value objects.old m ≡ Some (Mutex x)
-        → WritesObject objects.old objects.new m (Mutex (record x { seen = yielded x.seen })) }
+        → WritesObject objects.old objects.new m (Mutex
+        (record x { view = mutex_after_yield x.view })) }
     ensures chains { (x : MutexState) → object_value objects.old m ≡ Some (Mutex x)
         → KeepsChains objects.old objects.new }
 {
@@ -123,14 +127,16 @@ pub fn acquire<A: Allocator + Copy>(
     m: ObjectId,
     c: ClientId,
 )
-    requires there { IsSome (mutex_in (object_value objects.old m)) }
-    requires may { (x : MutexState) → object_value objects.old m ≡ Some (Mutex x)
-        → IsTrue (can_acquire x.seen c) }
+    requires exists { IsSome (mutex_in (object_value objects.old m)) }
+    requires allowed { (x : MutexState) → object_value objects.old m ≡ Some (Mutex x)
+        → IsTrue (can_acquire x.view c) }
     requires client { has_client clients.old c ≡ true }
     requires chained { (orphans : Option ℕ) × AreChained clients.old objects.old orphans }
     ensures mutex { (x : MutexState) → object_value objects.old m ≡ Some (Mutex x)
-        → WritesObject objects.old objects.new m (Mutex (record x { seen = acquired x.seen c })) }
-    ensures rows { Once clients.old → unowned clients.new ≡ unowned clients.old }
+        → WritesObject objects.old objects.new m (Mutex
+        (record x { view = mutex_after_acquire x.view c })) }
+    ensures rows { HasDistinctNumbers clients.old → rows_without_owned clients.new
+        ≡ rows_without_owned clients.old }
     ensures chained { (orphans : Option ℕ) → AreChained clients.old objects.old orphans
         → AreChained clients.new objects.new orphans }
 {
@@ -146,12 +152,13 @@ pub fn acquire_plain<A: Allocator + Copy>(
     m: ObjectId,
     c: ClientId,
 )
-    requires there { IsSome (mutex_in (object_value objects.old m)) }
-    requires may { (x : MutexState) → object_value objects.old m ≡ Some (Mutex x)
-        → IsTrue (can_acquire x.seen c) }
-    requires plain { passes is_robust_free (object_value objects.old m) ≡ false }
+    requires exists { IsSome (mutex_in (object_value objects.old m)) }
+    requires allowed { (x : MutexState) → object_value objects.old m ≡ Some (Mutex x)
+        → IsTrue (can_acquire x.view c) }
+    requires plain { is_some_and is_robust_free (object_value objects.old m) ≡ false }
     ensures mutex { (x : MutexState) → object_value objects.old m ≡ Some (Mutex x)
-        → WritesObject objects.old objects.new m (Mutex (record x { seen = acquired x.seen c })) }
+        → WritesObject objects.old objects.new m (Mutex
+        (record x { view = mutex_after_acquire x.view c })) }
     ensures chained { (clients : List (ClientRow Caller)) → has_client clients c ≡ true
         → (orphans : Option ℕ) → AreChained clients objects.old orphans
         → AreChained clients objects.new orphans }
@@ -168,18 +175,20 @@ pub fn release<A: Allocator + Copy>(
     m: ObjectId,
     c: ClientId,
 )
-    requires there { IsSome (mutex_in (object_value objects.old m)) }
+    requires exists { IsSome (mutex_in (object_value objects.old m)) }
     requires owned { (x : MutexState) → object_value objects.old m ≡ Some (Mutex x)
-        → IsTrue (owns x.seen c) }
+        → IsTrue (owns x.view c) }
     requires client { has_client clients.old c ≡ true }
     requires chained { (orphans : Option ℕ) × AreChained clients.old objects.old orphans }
     ensures mutex { (x : MutexState) → object_value objects.old m ≡ Some (Mutex x)
-        → WritesObject objects.old objects.new m (Mutex (record x { seen = released x.seen })) }
-    ensures rows { Once clients.old → unowned clients.new ≡ unowned clients.old }
+        → WritesObject objects.old objects.new m (Mutex
+        (record x { view = mutex_after_release x.view })) }
+    ensures rows { HasDistinctNumbers clients.old → rows_without_owned clients.new
+        ≡ rows_without_owned clients.old }
     ensures chained { (orphans : Option ℕ) → AreChained clients.old objects.old orphans
         → AreChained clients.new objects.new orphans }
 {
-    let_go(clients, objects, m, c);
+    unlink_owned(clients, objects, m, c);
     unlock(objects, m, c);
 }
 
@@ -187,7 +196,8 @@ pub fn release<A: Allocator + Copy>(
 pub fn restore<A: Allocator + Copy>(objects: &mut Objects<Object<A>, A>, m: ObjectId)
     requires { IsSome (mutex_in (object_value objects.old m)) }
     ensures mutex { (x : MutexState) → object_value objects.old m ≡ Some (Mutex x)
-        → WritesObject objects.old objects.new m (Mutex (record x { seen = restored x.seen })) }
+        → WritesObject objects.old objects.new m (Mutex
+        (record x { view = mutex_after_consistent x.view })) }
     ensures chains { (x : MutexState) → object_value objects.old m ≡ Some (Mutex x)
         → KeepsChains objects.old objects.new }
 {
@@ -205,11 +215,12 @@ pub fn yield_dead<A: Allocator + Copy>(
     objects: &mut Objects<Object<A>, A>,
     m: ObjectId,
 ) -> Option<u64>
-    requires there { IsSome (mutex_in (object_value objects.old m)) }
+    requires exists { IsSome (mutex_in (object_value objects.old m)) }
     requires chained { (clients : List (ClientRow Caller))
         × AreChained clients objects.old (Some m) }
     ensures mutex { (x : MutexState) → object_value objects.old m ≡ Some (Mutex x)
-        → WritesObject objects.old objects.new m (Mutex (record x { seen = yielded x.seen })) }
+        → WritesObject objects.old objects.new m (Mutex
+        (record x { view = mutex_after_yield x.view })) }
     ensures chained { (clients : List (ClientRow Caller)) → AreChained clients objects.old (Some m)
         → AreChained clients objects.new result }
 {

@@ -3,11 +3,11 @@
 ghost use Rattle.std.specs.Prelude.{IfErr, OnErr, OnOk, ◌+◌, ◌-◌, ◌<◌, ◌≡◌, false, length, true};
 ghost use Rattle.pt_types.specs.Operations.{class_of as class_meant};
 ghost use Rattle.pt_records.specs.Objects.{Rising, kind_in_row};
-ghost use Rattle.pt_types.specs.ObjectTable.{is_bad_kind};
+ghost use Rattle.pt_types.specs.ObjectTable.{is_invalid_kind};
 ghost use Rattle.pt_records.specs.declared.objects.Object.TheVariants.{Mutex, Rwlock};
 ghost use Rattle.pt_records.specs.Writes.{AddsObject, RemovesObject, new_object};
-ghost use Rattle.pt_types.specs.Limits.{most_objects};
-ghost use Rattle.pt_table.specs.ObjectRows.{has_object, is_taken};
+ghost use Rattle.pt_types.specs.Limits.{max_objects};
+ghost use Rattle.pt_table.specs.ObjectRows.{has_object, is_in_use};
 
 use pt_barrier::BarrierObj;
 use pt_cond::CondObj;
@@ -41,7 +41,7 @@ pub enum Object<A: Allocator + Copy = Global> {
 
 /// Creates an object of this kind.  [XSH 2.9]
 pub fn make<A: Allocator + Copy>(kind: ObjectKind, alloc: A) -> Object<A>
-    requires { is_bad_kind kind ≡ false }
+    requires { is_invalid_kind kind ≡ false }
     ensures { result ≡ new_object kind }
 {
     match kind {
@@ -60,12 +60,12 @@ pub fn add<A: Allocator + Copy>(
     name: &Name,
     object: Object<A>,
 ) -> Result<(), Refusal>
-    requires new { is_taken objects.old o name.now ≡ false }
-    requires room { length objects.old < most_objects }
+    requires new { is_in_use objects.old o name.now ≡ false }
+    requires room { length objects.old < max_objects }
     requires rising { Rising objects.old o }
     ensures ok { OnOk result (AddsObject objects.old objects.new o name.now object) }
-    ensures err { OnErr result (objects.new ≡ objects.old) }
-    ensures reason { IfErr result (λ refusal. refusal ≡ Refusal.Enomem) }
+    ensures unchanged { OnErr result (objects.new ≡ objects.old) }
+    ensures err { IfErr result (λ refusal. refusal ≡ Refusal.Enomem) }
 {
     match objects.add_new(o.0, name, object) {
         Ok(()) => Ok(()),

@@ -2,18 +2,18 @@
 
 ghost use Rattle.std.specs.Prelude.{IfErr, IsOk, IsSome, IsTrue, OnErr, OnOk, Some, ◌+◌, ◌-◌, ◌<◌};
 ghost use Rattle.std.specs.Prelude.{◌≡◌, false};
-ghost use Rattle.pt_types.specs.RwlockTable.{holds, may_read as may_read_it};
+ghost use Rattle.pt_types.specs.RwlockTable.{has_lock, can_grant_read};
 ghost use Rattle.pt_rwlock.specs.RwlockState.{ChangesRow, RwlockState, can_acquire_read};
-ghost use Rattle.pt_rwlock.specs.RwlockState.{nobody_holds, reads_of, released as released_lock};
-ghost use Rattle.pt_rwlock.specs.RwlockState.{row_of, seen_by, with_reads, with_row};
+ghost use Rattle.pt_rwlock.specs.RwlockState.{nobody_holds, reads_of, rwlock_after_release};
+ghost use Rattle.pt_rwlock.specs.RwlockState.{reads_in_row, view_for, with_reads, with_row};
 ghost use Rattle.pt_table.specs.ObjectRows.{object_value};
 ghost use Rattle.pt_records.specs.LocksInRows.{rwlock_in};
 ghost use Rattle.pt_records.specs.declared.objects.Object.TheVariants.{Rwlock};
 ghost use Rattle.pt_records.specs.Chained.{KeepsChains};
 ghost use Rattle.pt_records.specs.Writes.{WritesObject};
-ghost use Rattle.pt_types.specs.MutexTable.{is_number};
+ghost use Rattle.pt_types.specs.MutexTable.{is_some_number};
 ghost use Rattle.pt_table.specs.ClientRows.{nth_number};
-ghost use Rattle.pt_model.specs.Found.{passes};
+ghost use Rattle.pt_model.specs.Found.{is_some_and};
 ghost use Rattle.std.specs.List.{list_any};
 
 use crate::clients::Caller;
@@ -25,8 +25,8 @@ use std::alloc::Allocator;
 
 /// Returns whether a client may get a read lock. `blocked` says whether a waiting writer goes
 /// before it.  [XSH pthread_rwlock_rdlock]
-pub fn may_read<A: Allocator + Copy>(lock: &Holders<A>, c: ClientId, blocked: bool) -> bool
-    ensures { result ≡ may_read_it (seen_by lock.now c) blocked }
+pub fn can_grant_read<A: Allocator + Copy>(lock: &Holders<A>, c: ClientId, blocked: bool) -> bool
+    ensures { result ≡ can_grant_read (view_for lock.now c) blocked }
 {
     lock.writer().is_none() && (!blocked || lock.holds(c))
 }
@@ -44,13 +44,13 @@ pub fn make_row<A: Allocator + Copy>(
         → OnOk result (WritesObject objects.old objects.new r (Rwlock (with_row x c))) }
     ensures row { (x : RwlockState) → object_value objects.old r ≡ Some (Rwlock x)
         → OnOk result (ChangesRow x (with_row x c) c (Some (reads_of x c))) }
-    ensures again { (x : RwlockState) → object_value objects.old r ≡ Some (Rwlock x)
-        → IsSome (row_of x c) → IsOk result }
-    ensures err { (x : RwlockState) → object_value objects.old r ≡ Some (Rwlock x)
+    ensures relock { (x : RwlockState) → object_value objects.old r ≡ Some (Rwlock x)
+        → IsSome (reads_in_row x c) → IsOk result }
+    ensures unchanged { (x : RwlockState) → object_value objects.old r ≡ Some (Rwlock x)
         → OnErr result (WritesObject objects.old objects.new r (Rwlock x)) }
     ensures chains { (x : RwlockState) → object_value objects.old r ≡ Some (Rwlock x)
         → KeepsChains objects.old objects.new }
-    ensures reason { IfErr result (λ refusal. refusal ≡ Refusal.Enomem) }
+    ensures err { IfErr result (λ refusal. refusal ≡ Refusal.Enomem) }
 {
     if let Some(object) = objects.at_mut(r.0) {
         if let Object::Rwlock(lock) = object {
@@ -67,8 +67,8 @@ pub fn acquire_read<A: Allocator + Copy>(
     r: ObjectId,
     c: ClientId,
 )
-    requires there { IsSome (rwlock_in (object_value objects.old r)) }
-    requires may { (x : RwlockState) → object_value objects.old r ≡ Some (Rwlock x)
+    requires exists { IsSome (rwlock_in (object_value objects.old r)) }
+    requires allowed { (x : RwlockState) → object_value objects.old r ≡ Some (Rwlock x)
         → IsTrue (can_acquire_read x c) }
     ensures lock { (x : RwlockState) → object_value objects.old r ≡ Some (Rwlock x)
         → WritesObject objects.old objects.new r (Rwlock (with_reads x c (reads_of x c + 1))) }
@@ -90,7 +90,7 @@ pub fn acquire_write<A: Allocator + Copy>(
     r: ObjectId,
     c: ClientId,
 )
-    requires there { IsSome (rwlock_in (object_value objects.old r)) }
+    requires exists { IsSome (rwlock_in (object_value objects.old r)) }
     requires free { (x : RwlockState) → object_value objects.old r ≡ Some (Rwlock x)
         → IsTrue (nobody_holds x) }
     ensures lock { (x : RwlockState) → object_value objects.old r ≡ Some (Rwlock x)
@@ -111,16 +111,16 @@ pub fn release_lock<A: Allocator + Copy>(
     r: ObjectId,
     c: ClientId,
 )
-    requires there { IsSome (rwlock_in (object_value objects.old r)) }
-    requires held { (x : RwlockState) → object_value objects.old r ≡ Some (Rwlock x)
-        → IsTrue (holds (seen_by x c)) }
+    requires exists { IsSome (rwlock_in (object_value objects.old r)) }
+    requires holder { (x : RwlockState) → object_value objects.old r ≡ Some (Rwlock x)
+        → IsTrue (has_lock (view_for x c)) }
     ensures lock { (x : RwlockState) → object_value objects.old r ≡ Some (Rwlock x)
-        → WritesObject objects.old objects.new r (Rwlock (released_lock x c)) }
+        → WritesObject objects.old objects.new r (Rwlock (rwlock_after_release x c)) }
     ensures chains { (x : RwlockState) → object_value objects.old r ≡ Some (Rwlock x)
         → KeepsChains objects.old objects.new }
     ensures row { (x : RwlockState) → object_value objects.old r ≡ Some (Rwlock x)
-        → is_number x.writer c ≡ false
-        → ChangesRow x (released_lock x c) c (Some (reads_of x c - 1)) }
+        → is_some_number x.writer c ≡ false
+        → ChangesRow x (rwlock_after_release x c) c (Some (reads_of x c - 1)) }
 {
     if let Some(object) = objects.at_mut(r.0) {
         if let Object::Rwlock(lock) = object {
@@ -135,7 +135,8 @@ fn holds_lock<A: Allocator + Copy>(
     lock: &Holders<A>,
     i: usize,
 ) -> bool
-    ensures { result ≡ passes (λ c. holds (seen_by lock.now c)) (nth_number clients.now i) }
+    ensures { result ≡ is_some_and (λ c. has_lock (view_for lock.now c))
+        (nth_number clients.now i) }
 {
     match clients.nth(i) {
         Some((number, _)) => lock.holds(ClientId(number)),
@@ -145,7 +146,7 @@ fn holds_lock<A: Allocator + Copy>(
 
 /// Returns whether a client with a row holds the lock.  [XSH pthread_rwlock_destroy]
 pub fn any_holds<A: Allocator + Copy>(clients: &Clients<Caller, A>, lock: &Holders<A>) -> bool
-    ensures { result ≡ list_any (λ row. holds (seen_by lock.now row.number)) clients.now }
+    ensures { result ≡ list_any (λ row. has_lock (view_for lock.now row.number)) clients.now }
 {
     for i in 0..clients.len() {
         if holds_lock(clients, lock, i) {

@@ -3,9 +3,9 @@
 ghost use Rattle.std.specs.Prelude.{◌≡◌, ◌+◌, ◌<◌, ◌≤◌, IfSome, List};
 ghost use Rattle.std.specs.Prelude.{vec_capacity, vec_len};
 ghost use Rattle.pt_records.specs.declared.answers.Answered.{Answered as AnyAnswer};
-ghost use Rattle.pt_types.specs.Limits.{most_places};
-ghost use Rattle.pt_records.specs.AnswerLogs.{IsThere, Shortens, ShortensAlone};
-ghost use Rattle.pt_records.specs.AnswerLogs.{lengthened, lengthened_all};
+ghost use Rattle.pt_types.specs.Limits.{max_place};
+ghost use Rattle.pt_records.specs.AnswerLogs.{IsThere, Shortens, ShortensSingle};
+ghost use Rattle.pt_records.specs.AnswerLogs.{answer_of_short, answers_of_shorts};
 
 use crate::answers::Answered;
 use pt_types::{ClientId, Outcome};
@@ -28,7 +28,7 @@ const _: () = prove!(size_of::<Short>() == 16);
 #[cold]
 #[inline(never)]
 fn base_before(at: u64) -> u64
-    ensures { result ≤ most_places }
+    ensures { result ≤ max_place }
 {
     at.saturating_sub(2_147_483_648)
         .min(4_611_686_018_427_387_904)
@@ -37,10 +37,10 @@ fn base_before(at: u64) -> u64
 /// Returns the base of a log after an answer that is given at a place is added. It is the old base,
 /// unless the log is empty.
 pub(crate) fn base_with(base: u64, shorts: &[Short], at: u64) -> u64
-    requires { base ≤ most_places }
-    ensures base { result ≤ most_places }
-    ensures same { (ws : List AnyAnswer) → lengthened_all result ws shorts.now
-        ≡ lengthened_all base ws shorts.now }
+    requires { base ≤ max_place }
+    ensures base { result ≤ max_place }
+    ensures unchanged { (ws : List AnyAnswer) → answers_of_shorts result ws shorts.now
+        ≡ answers_of_shorts base ws shorts.now }
 {
     if shorts.is_empty() {
         base_before(at)
@@ -50,13 +50,13 @@ pub(crate) fn base_with(base: u64, shorts: &[Short], at: u64) -> u64
 }
 
 // The greatest number that fits in 32 bits.
-const MOST: u64 = 4_294_967_295;
+const MAX_SHORT: u64 = 4_294_967_295;
 
 // Returns a number counted from the base. A number below the base wraps around to a large one, so
 // that a single test of the result is enough.
 #[inline(always)]
 fn count_from(base: u64, number: u64) -> u64
-    requires { base ≤ most_places }
+    requires { base ≤ max_place }
     ensures { result ≤ 4294967295 → base + result ≡ number }
 {
     number.wrapping_sub(base)
@@ -65,14 +65,14 @@ fn count_from(base: u64, number: u64) -> u64
 /// Returns an answer in short, if its numbers fit.
 #[inline(always)]
 pub(crate) fn near_answer(base: u64, answer: &Answered) -> Option<Short>
-    requires { base ≤ most_places }
-    ensures { IfSome result (λ s. ShortensAlone base answer.now s) }
+    requires { base ≤ max_place }
+    ensures { IfSome result (λ s. ShortensSingle base answer.now s) }
 {
     let at = count_from(base, answer.at);
     let client = count_from(base, answer.client.0);
     let place = count_from(base, answer.place);
     // One test for all three, without a jump for each: nearly all answers fit.
-    if (at > MOST) | (client > MOST) | (place > MOST) {
+    if (at > MAX_SHORT) | (client > MAX_SHORT) | (place > MAX_SHORT) {
         return None;
     }
     Some(Short::Near(answer.outcome, at as u32, client as u32, place as u32))
@@ -85,7 +85,7 @@ pub(crate) fn shortened<A: Allocator + Copy>(
     wholes: &mut Vec<Answered, A>,
     answer: &Answered,
 ) -> Short
-    requires base { base ≤ most_places }
+    requires base { base ≤ max_place }
     requires room { vec_len wholes.old < vec_capacity wholes.old }
     ensures { Shortens base answer.now wholes.old wholes.new result }
 {
@@ -101,9 +101,9 @@ pub(crate) fn shortened<A: Allocator + Copy>(
 
 /// Returns the answer that is stored in short.
 pub(crate) fn answer_of(base: u64, wholes: &[Answered], short: Short) -> Answered
-    requires base { base ≤ most_places }
-    requires there { IsThere wholes.now short }
-    ensures { result ≡ lengthened base wholes.now short }
+    requires base { base ≤ max_place }
+    requires exists { IsThere wholes.now short }
+    ensures { result ≡ answer_of_short base wholes.now short }
 {
     match short {
         Short::Near(outcome, at, client, place) => Answered {

@@ -6,28 +6,28 @@ use Rattle.pt_model.specs.declared.entry.Entry.{Entry}
 use Rattle.std.proofs.lemmas.List.Elements.{filter-append}
 use Rattle.std.proofs.lemmas.Bool.{cases_order}
 use Rattle.pt_model.specs.Histories.{History, ◌▷◌, place, history}
-use Rattle.pt_model.specs.Searches.{least, listed}
+use Rattle.pt_model.specs.Searches.{least, option_list}
 use Rattle.pt_model.specs.declared.waiting_call.WaitingCall.{WaitingCall}
-use Rattle.pt_model.specs.WaitingCall.{at_place, stood, stood_by}
+use Rattle.pt_model.specs.WaitingCall.{call_at_place, waiting_calls, waiting_calls_by}
 use Rattle.pt_model.specs.Answers.{open_calls, outcome, is_open_by}
-use Rattle.pt_model.specs.Verdicts.{bound_by}
-use Rattle.pt_model.specs.Found.{passes, keep}
+use Rattle.pt_model.specs.Verdicts.{bound_mutex}
+use Rattle.pt_model.specs.Found.{is_some_and, option_filter}
 use Rattle.pt_model.proofs.Ascending.{from, upto, upto_more, upto-before, upto_all}
-use Rattle.pt_model.proofs.Ascending.{at_place-append_right, at_place-below, Each-weaker}
-use Rattle.pt_readings.proofs.Past.{place_all, history_more}
-use Rattle.pt_readings.proofs.Stood.{at_place-here, newest, newest-other, stood-below}
+use Rattle.pt_model.proofs.Ascending.{call_at_place-append_right, call_at_place-below, Each-weaker}
+use Rattle.pt_readings.proofs.Prefix.{place_all, history_more}
+use Rattle.pt_readings.proofs.Stood.{call_at_place-here, newest, newest-other, waiting_calls-below}
 use Rattle.pt_model.proofs.OpenOrder.{open-ascends}
 use Rattle.pt_readings.proofs.Opens.{open-within, open_from_less, at_place_open}
 use Rattle.pt_reference.specs.Best.{best_of, awaited_or}
 
-filter-listed :
+filter-option_list :
     (p : WaitingCall → Bool) (o : Option WaitingCall) (ws : List WaitingCall)
-    → filter p (listed o ++ ws) ≡ listed (keep p o) ++ filter p ws
-filter-listed p None ws = refl
-filter-listed p (Some w) ws = go (p w)
+    → filter p (option_list o ++ ws) ≡ option_list (option_filter p o) ++ filter p ws
+filter-option_list p None ws = refl
+filter-option_list p (Some w) ws = go (p w)
   where
     go : (b : Bool) → cond b (w ∷ filter p ws) (filter p ws)
-        ≡ listed (cond b (Some w) None) ++ filter p ws
+        ≡ option_list (cond b (Some w) None) ++ filter p ws
     go true = refl
     go false = refl
 
@@ -35,59 +35,62 @@ filter-listed p (Some w) ws = go (p w)
 filter-less :
     (h : History) (p : WaitingCall → Bool) (i : ℕ) → 0 < i
     → filter p (from (i - 1) (open_calls h))
-    ≡ listed (keep p (at_place (i - 1) (open_calls h))) ++ filter p (from i (open_calls h))
+    ≡ option_list (option_filter p (call_at_place (i - 1) (open_calls h)))
+    ++ filter p (from i (open_calls h))
 filter-less h p i lt =
     ap (filter p) (open_from_less h i lt)
-    ∙ filter-listed p (at_place (i - 1) (open_calls h)) (from i (open_calls h))
+    ∙ filter-option_list p (call_at_place (i - 1) (open_calls h)) (from i (open_calls h))
 
-least-listed :
+least-option_list :
     (before : WaitingCall → WaitingCall → Bool) (o : Option WaitingCall) (ws : List WaitingCall)
-    → least before (listed o ++ ws) ≡ best_of before o (least before ws)
-least-listed before None ws = refl
-least-listed before (Some w) ws = refl
+    → least before (option_list o ++ ws) ≡ best_of before o (least before ws)
+least-option_list before None ws = refl
+least-option_list before (Some w) ws = refl
 
 -- the least, with one more call
 pub least-less :
     (h : History) (before : WaitingCall → WaitingCall → Bool) (p : WaitingCall → Bool) (i : ℕ)
     → 0 < i
     → least before (filter p (from (i - 1) (open_calls h)))
-    ≡ best_of before (keep p (at_place (i - 1) (open_calls h)))
+    ≡ best_of before (option_filter p (call_at_place (i - 1) (open_calls h)))
     (least before (filter p (from i (open_calls h))))
 least-less h before p i lt =
     ap (least before) (filter-less h p i lt)
-    ∙ least-listed before (keep p (at_place (i - 1) (open_calls h)))
+    ∙ least-option_list before (option_filter p (call_at_place (i - 1) (open_calls h)))
     (filter p (from i (open_calls h)))
 
-bound-listed :
+bound-option_list :
     (o : Option WaitingCall) (ws : List WaitingCall)
-    → bound_by (listed o ++ ws) ≡ awaited_or o (bound_by ws)
-bound-listed None ws = refl
-bound-listed (Some w) ws = refl
+    → bound_mutex (option_list o ++ ws) ≡ awaited_or o (bound_mutex ws)
+bound-option_list None ws = refl
+bound-option_list (Some w) ws = refl
 
 -- the mutex of the first, with one more call
 pub bound-less :
     (h : History) (p : WaitingCall → Bool) (i : ℕ) → 0 < i
-    → bound_by (filter p (from (i - 1) (open_calls h)))
-    ≡ awaited_or (keep p (at_place (i - 1) (open_calls h)))
-    (bound_by (filter p (from i (open_calls h))))
+    → bound_mutex (filter p (from (i - 1) (open_calls h)))
+    ≡ awaited_or (option_filter p (call_at_place (i - 1) (open_calls h)))
+    (bound_mutex (filter p (from i (open_calls h))))
 bound-less h p i lt =
-    ap bound_by (filter-less h p i lt)
-    ∙ bound-listed (keep p (at_place (i - 1) (open_calls h))) (filter p (from i (open_calls h)))
+    ap bound_mutex (filter-less h p i lt)
+    ∙ bound-option_list (option_filter p (call_at_place (i - 1) (open_calls h))) (filter p (from i
+    (open_calls h)))
 
 -- how many calls pass a test, with one more call
 pub length-more :
     (h : History) (q : WaitingCall → Bool) (i : ℕ)
     → length (filter q (upto (i + 1) (open_calls h)))
     ≡ length (filter q (upto i (open_calls h)))
-    + cond (passes q (at_place i (open_calls h))) 1 0
+    + cond (is_some_and q (call_at_place i (open_calls h))) 1 0
 length-more h q i =
     ap (λ ws. length (filter q ws)) (upto_more i 0 (open_calls h) (open-ascends h))
-    ∙ ap length (filter-append q (upto i (open_calls h)) (listed (at_place i (open_calls h))))
+    ∙ ap length (filter-append q (upto i (open_calls h)) (option_list (call_at_place i
+    (open_calls h))))
     ∙ length-append (filter q (upto i (open_calls h)))
-    (filter q (listed (at_place i (open_calls h))))
-    ∙ ap (λ n. length (filter q (upto i (open_calls h))) + n) (go (at_place i (open_calls h)))
+    (filter q (option_list (call_at_place i (open_calls h))))
+    ∙ ap (λ n. length (filter q (upto i (open_calls h))) + n) (go (call_at_place i (open_calls h)))
   where
-    go : (o : Option WaitingCall) → length (filter q (listed o)) ≡ cond (passes q o) 1 0
+    go : (o : Option WaitingCall) → length (filter q (option_list o)) ≡ cond (is_some_and q o) 1 0
     go None = refl
     go (Some w) = pick (q w)
       where
@@ -97,14 +100,16 @@ length-more h q i =
 
 -- if that call passes
 pub length_yes :
-    (h : History) (q : WaitingCall → Bool) (i : ℕ) → passes q (at_place i (open_calls h)) ≡ true
+    (h : History) (q : WaitingCall → Bool) (i : ℕ) → is_some_and q (call_at_place i (open_calls h))
+    ≡ true
     → length (filter q (upto (i + 1) (open_calls h)))
     ≡ length (filter q (upto i (open_calls h))) + 1
 length_yes h q i e = length-more h q i ∙ rw e refl
 
 -- if it fails
 pub length_no :
-    (h : History) (q : WaitingCall → Bool) (i : ℕ) → passes q (at_place i (open_calls h)) ≡ false
+    (h : History) (q : WaitingCall → Bool) (i : ℕ) → is_some_and q (call_at_place i (open_calls h))
+    ≡ false
     → length (filter q (upto (i + 1) (open_calls h))) ≡ length (filter q (upto i (open_calls h)))
 length_no h q i e = length-more h q i ∙ rw e (omega arith)
 
@@ -129,52 +134,55 @@ place_of_all es = place_all es
 
 -- an open call at a place
 pub open_yes :
-    (h : History) (i : ℕ) (w : WaitingCall) → Some w ≡ at_place i (stood h)
-    → is_open_by h (outcome h) w ≡ true → Some w ≡ at_place i (open_calls h)
+    (h : History) (i : ℕ) (w : WaitingCall) → Some w ≡ call_at_place i (waiting_calls h)
+    → is_open_by h (outcome h) w ≡ true → Some w ≡ call_at_place i (open_calls h)
 open_yes h i w e open_now =
-    sym (at_place_open h i ∙ ap (keep (is_open_by h (outcome h))) (sym e) ∙ rw open_now refl)
+    sym (at_place_open h i ∙ ap (option_filter (is_open_by h (outcome h))) (sym e)
+    ∙ rw open_now refl)
 
 -- a call at a place that isn't open
 pub open_no :
-    (h : History) (i : ℕ) (w : WaitingCall) → Some w ≡ at_place i (stood h)
-    → is_open_by h (outcome h) w ≡ false → None ≡ at_place i (open_calls h)
+    (h : History) (i : ℕ) (w : WaitingCall) → Some w ≡ call_at_place i (waiting_calls h)
+    → is_open_by h (outcome h) w ≡ false → None ≡ call_at_place i (open_calls h)
 open_no h i w e shut =
-    sym (at_place_open h i ∙ ap (keep (is_open_by h (outcome h))) (sym e) ∙ rw shut refl)
+    sym (at_place_open h i ∙ ap (option_filter (is_open_by h (outcome h))) (sym e) ∙ rw shut refl)
 
 -- no call at a place
 pub open_none :
-    (h : History) (i : ℕ) → None ≡ at_place i (stood h) → None ≡ at_place i (open_calls h)
-open_none h i e = sym (at_place_open h i ∙ ap (keep (is_open_by h (outcome h))) (sym e))
+    (h : History) (i : ℕ) → None ≡ call_at_place i (waiting_calls h) → None
+    ≡ call_at_place i (open_calls h)
+open_none h i e = sym (at_place_open h i ∙ ap (option_filter (is_open_by h (outcome h))) (sym e))
 
 -- the call that one more entry leaves waiting
 pub stood_new :
     (es : List Entry) (e : Entry) (o : Option WaitingCall) (i : ℕ)
-    → listed o ≡ stood_by (history es) e → i ≡ length es
-    → o ≡ at_place i (stood (history es ▷ e))
+    → option_list o ≡ waiting_calls_by (history es) e → i ≡ length es
+    → o ≡ call_at_place i (waiting_calls (history es ▷ e))
 stood_new es e o i is same =
     let h = history es in
     let k : place h ≡ i = omega (arith, place_all es) in
-    at_place-here h e [] o is ∙ ap (λ j. at_place j (stood (h ▷ e))) k
+    call_at_place-here h e [] o is ∙ ap (λ j. call_at_place j (waiting_calls (h ▷ e))) k
 
 -- the calls that earlier entries left waiting
 pub stood_old :
     (es : List Entry) (e : Entry) (i : ℕ) → (i ≡ length es → ⊥)
-    → at_place i (stood (history es)) ≡ at_place i (stood (history es ▷ e))
+    → call_at_place i (waiting_calls (history es))
+    ≡ call_at_place i (waiting_calls (history es ▷ e))
 stood_old es e i other =
     elim (cases_order i (place (history es))) [
       | inl same ↦ absurd (other (same ∙ place_all es))
       | inr (inl before) ↦
           let h = history es in
-          sym (at_place-append_right i (stood h) (stood_by h e)
+          sym (call_at_place-append_right i (waiting_calls h) (waiting_calls_by h e)
           (newest-other (place h) i (newest h e) before))
       | inr (inr behind) ↦
           let h = history es in
-          at_place-below i (stood h)
+          call_at_place-below i (waiting_calls h)
           (Each-weaker (λ w. w.place < place h) (λ w. w.place < i) (λ w lt. omega arith)
-          (stood h) (stood-below h))
-          ∙ sym (at_place-below i (stood (h ▷ e))
+          (waiting_calls h) (waiting_calls-below h))
+          ∙ sym (call_at_place-below i (waiting_calls (h ▷ e))
           (Each-weaker (λ w. w.place < suc (place h)) (λ w. w.place < i) (λ w lt. omega arith)
-          (stood (h ▷ e)) (stood-below (h ▷ e))))
+          (waiting_calls (h ▷ e)) (waiting_calls-below (h ▷ e))))
     ]
 
 -- the history of one more entry

@@ -6,14 +6,14 @@ use Rattle.std.proofs.lemmas.List.Sums.{sum-map, sum_by-append}
 use Rattle.std.specs.List.{sum_by}
 use Rattle.pt_model.specs.declared.entry.Entry.{Entry}
 use Rattle.pt_model.specs.Histories.{History, ◌▷◌, place, history}
-use Rattle.pt_model.specs.Searches.{listed, count_below}
+use Rattle.pt_model.specs.Searches.{option_list, count_below}
 use Rattle.pt_model.specs.declared.waiting_call.WaitingCall.{WaitingCall}
-use Rattle.pt_model.specs.WaitingCall.{at_place}
+use Rattle.pt_model.specs.WaitingCall.{call_at_place}
 use Rattle.pt_model.specs.Answers.{open_calls}
 use Rattle.pt_model.specs.Room.{reserved_for}
 use Rattle.pt_model.proofs.Ascending.{upto, upto_more, upto-before, upto_all, Each-weaker}
 use Rattle.pt_model.proofs.OpenOrder.{open-ascends, open-below}
-use Rattle.pt_readings.proofs.Past.{place_all, history_more}
+use Rattle.pt_readings.proofs.Prefix.{place_all, history_more}
 use Rattle.pt_reference.proofs.Ends.{both}
 use Rattle.pt_reference.specs.Best.{reserved_of}
 
@@ -23,12 +23,13 @@ reserved_for_all h ws = sum (map (reserved_for h) ws)
 
 reserved-append :
     (h : History) (vs : List WaitingCall) (o : Option WaitingCall)
-    → reserved_for_all h (vs ++ listed o) ≡ reserved_for_all h vs + reserved_of h o
+    → reserved_for_all h (vs ++ option_list o) ≡ reserved_for_all h vs + reserved_of h o
 reserved-append h vs o =
-    sum-map (reserved_for h) (vs ++ listed o) ∙ sum_by-append (reserved_for h) vs (listed o)
+    sum-map (reserved_for h) (vs ++ option_list o)
+    ∙ sum_by-append (reserved_for h) vs (option_list o)
     ∙ both ◌+◌ (sym (sum-map (reserved_for h) vs)) (go o)
   where
-    go : (o : Option WaitingCall) → sum_by (reserved_for h) (listed o) ≡ reserved_of h o
+    go : (o : Option WaitingCall) → sum_by (reserved_for h) (option_list o) ≡ reserved_of h o
     go None = refl
     go (Some w) = omega arith
 
@@ -36,10 +37,11 @@ reserved-append h vs o =
 pub reserved_more :
     (h : History) (i : ℕ)
     → sum (map (reserved_for h) (upto (i + 1) (open_calls h)))
-    ≡ sum (map (reserved_for h) (upto i (open_calls h))) + reserved_of h (at_place i (open_calls h))
+    ≡ sum (map (reserved_for h) (upto i (open_calls h))) + reserved_of h (call_at_place i
+    (open_calls h))
 reserved_more h i =
     ap (reserved_for_all h) (upto_more i 0 (open_calls h) (open-ascends h))
-    ∙ reserved-append h (upto i (open_calls h)) (at_place i (open_calls h))
+    ∙ reserved-append h (upto i (open_calls h)) (call_at_place i (open_calls h))
 
 -- for no calls
 pub reserved_none : (h : History) → sum (map (reserved_for h) (upto 0 (open_calls h))) ≡ 0

@@ -1,39 +1,39 @@
 ghost use Rattle.std.specs.Prelude.{◌≡◌, ◌≤◌, ◌+◌, ◌*◌, ◌<◌, length, map, sum, is_some};
 ghost use Rattle.pt_model.specs.Histories.{history, place, ◌▷◌};
 ghost use Rattle.pt_model.specs.Searches.{count_below};
-ghost use Rattle.pt_model.specs.Clients.{is_alive as is_alive_in};
+ghost use Rattle.pt_model.specs.Clients.{is_alive};
 ghost use Rattle.pt_model.specs.Objects.{kind_of as kind_in};
-ghost use Rattle.pt_model.specs.WaitingCall.{at_place, stood};
+ghost use Rattle.pt_model.specs.WaitingCall.{call_at_place, waiting_calls};
 ghost use Rattle.pt_model.specs.Answers.{is_open_by, open_calls, outcome as outcome_in};
-ghost use Rattle.pt_model.specs.Moves.{moved as moved_in};
-ghost use Rattle.pt_model.specs.Mutexes.{count as count_in, owner as owner_in};
-ghost use Rattle.pt_model.specs.Room.{reserved_for, is_robust_owned as is_robust_owned_in};
-ghost use Rattle.pt_model.specs.Room.{need as need_in};
+ghost use Rattle.pt_model.specs.Moves.{wait_move};
+ghost use Rattle.pt_model.specs.Mutexes.{mutex_count, owner};
+ghost use Rattle.pt_model.specs.Room.{reserved_for, is_robust_owned};
+ghost use Rattle.pt_model.specs.Room.{need};
 ghost use Rattle.pt_reference.specs.Best.{reserved_of};
 
 use pt_model::Entry;
 use pt_model::waiting_call::{Move, WaitingCall};
 use pt_readings::answers::{answer_by, outcome};
-use pt_readings::clients::{client, client_by, living, living_by};
+use pt_readings::clients::{client, client_priority_by, living, living_count_by};
 use pt_readings::moves::{cause_by, move_or, moved};
-use pt_readings::mutexes::{gained, gained_by, lost, lost_by};
+use pt_readings::mutexes::{lock_count, lock_count_by, unlock_count, unlock_count_by};
 use pt_readings::objects::{is_robust, kind_by, kind_of};
-use pt_readings::waiting::{stood_by, waiting_call_at};
+use pt_readings::waiting::{waiting_call_at, waiting_calls_by};
 use pt_types::{ClientId, ObjectId, ObjectKind, Outcome};
 
 /// Returns true if a client lives after one more entry.
 pub fn is_alive(entries: &[Entry], entry: &Entry, c: ClientId) -> bool
-    ensures { result ≡ is_alive_in (history entries.now ▷ entry.now) c }
+    ensures { result ≡ is_alive (history entries.now ▷ entry.now) c }
 {
-    client_by(entry, client(entries, c), c).is_some()
+    client_priority_by(entry, client(entries, c), c).is_some()
 }
 
 /// Returns the call that came without a reply at a place, after one more entry.
-pub fn stood_at(entries: &[Entry], entry: &Entry, i: u64) -> Option<WaitingCall>
-    ensures { result ≡ at_place i (stood (history entries.now ▷ entry.now)) }
+pub fn new_waiting_call_at(entries: &[Entry], entry: &Entry, i: u64) -> Option<WaitingCall>
+    ensures { result ≡ call_at_place i (waiting_calls (history entries.now ▷ entry.now)) }
 {
     if i == entries.len() as u64 {
-        stood_by(entries, entry)
+        waiting_calls_by(entries, entry)
     } else {
         waiting_call_at(entries, i)
     }
@@ -58,9 +58,9 @@ pub fn is_open(entries: &[Entry], entry: &Entry, w: &WaitingCall) -> bool
 
 /// Returns the call at a place, if it is open after one more entry.
 pub fn open_at(entries: &[Entry], entry: &Entry, i: u64) -> Option<WaitingCall>
-    ensures { result ≡ at_place i (open_calls (history entries.now ▷ entry.now)) }
+    ensures { result ≡ call_at_place i (open_calls (history entries.now ▷ entry.now)) }
 {
-    match stood_at(entries, entry, i) {
+    match new_waiting_call_at(entries, entry, i) {
         Some(w) => {
             if is_open(entries, entry, &w) {
                 Some(w)
@@ -75,7 +75,7 @@ pub fn open_at(entries: &[Entry], entry: &Entry, i: u64) -> Option<WaitingCall>
 /// Returns the move of the wait at a place, after one more entry.  [XSH pthread_cond_broadcast]
 #[tactic(auto, using(crate::proofs::Ends::place_of_all))]
 pub fn move_of(entries: &[Entry], entry: &Entry, j: u64) -> Option<Move>
-    ensures { result ≡ moved_in (history entries.now ▷ entry.now) j }
+    ensures { result ≡ wait_move (history entries.now ▷ entry.now) j }
 {
     let before = moved(entries, j);
     move_or(
@@ -89,8 +89,8 @@ pub fn move_of(entries: &[Entry], entry: &Entry, j: u64) -> Option<Move>
 pub fn reserved_at(entries: &[Entry], entry: &Entry, i: u64) -> u64
     ensures value { result
         ≡ reserved_of (history entries.now ▷ entry.now)
-        (at_place i (open_calls (history entries.now ▷ entry.now))) }
-    ensures small { result ≤ 3 }
+        (call_at_place i (open_calls (history entries.now ▷ entry.now))) }
+    ensures within { result ≤ 3 }
 {
     match open_at(entries, entry, i) {
         Some(w) if move_of(entries, entry, w.place).is_some() => 2,
@@ -105,7 +105,7 @@ pub fn reserved(entries: &[Entry], entry: &Entry) -> u64
         ≡ sum
         (map (reserved_for (history entries.now ▷ entry.now))
         (open_calls (history entries.now ▷ entry.now))) }
-    ensures small { result ≤ 3 * length entries.now + 3 }
+    ensures within { result ≤ 3 * length entries.now + 3 }
 {
     let mut total = 0;
     for i in 0..entries.len() + 1 {
@@ -123,17 +123,17 @@ pub fn kind(entries: &[Entry], entry: &Entry, o: ObjectId) -> Option<ObjectKind>
 
 /// Returns how often a client holds a mutex, after one more entry.  [XSH pthread_mutex_lock]
 pub fn count(entries: &[Entry], entry: &Entry, m: ObjectId, c: ClientId) -> u64
-    ensures { result ≡ count_in (history entries.now ▷ entry.now) m c }
+    ensures { result ≡ mutex_count (history entries.now ▷ entry.now) m c }
 {
-    let gained = gained_by(entries, entry, m, c, gained(entries, m, c));
-    let lost = lost_by(entries, entry, m, c, lost(entries, m, c));
-    gained.saturating_sub(lost)
+    let lock_count = lock_count_by(entries, entry, m, c, lock_count(entries, m, c));
+    let unlocked = unlock_count_by(entries, entry, m, c, unlock_count(entries, m, c));
+    lock_count.saturating_sub(unlocked)
 }
 
 /// Returns true if a client, dead or alive, holds a mutex, after one more entry.
 /// [XSH pthread_mutex_lock]
 pub fn is_owned(entries: &[Entry], entry: &Entry, m: ObjectId) -> bool
-    ensures { result ≡ is_some (owner_in (history entries.now ▷ entry.now) m) }
+    ensures { result ≡ is_some (owner (history entries.now ▷ entry.now) m) }
 {
     for i in 0..entries.len() + 1 {
         if 0 < count(entries, entry, m, ClientId(i as u64)) {
@@ -145,7 +145,7 @@ pub fn is_owned(entries: &[Entry], entry: &Entry, m: ObjectId) -> bool
 
 /// Returns true if an object is a robust mutex with an owner, after one more entry.
 pub fn is_robust_owned(entries: &[Entry], entry: &Entry, m: ObjectId) -> bool
-    ensures { result ≡ is_robust_owned_in (history entries.now ▷ entry.now) m }
+    ensures { result ≡ is_robust_owned (history entries.now ▷ entry.now) m }
 {
     is_robust(kind(entries, entry, m)) && is_owned(entries, entry, m)
 }
@@ -155,8 +155,8 @@ pub fn is_robust_owned(entries: &[Entry], entry: &Entry, m: ObjectId) -> bool
 pub fn robust_owned(entries: &[Entry], entry: &Entry) -> u64
     ensures value { result
         ≡ count_below (place (history entries.now ▷ entry.now))
-        (is_robust_owned_in (history entries.now ▷ entry.now)) }
-    ensures small { result ≤ length entries.now + 1 }
+        (is_robust_owned (history entries.now ▷ entry.now)) }
+    ensures within { result ≤ length entries.now + 1 }
 {
     let mut total = 0;
     for i in 0..entries.len() + 1 {
@@ -170,8 +170,10 @@ pub fn robust_owned(entries: &[Entry], entry: &Entry) -> u64
 /// Returns the need after one more entry: the entries reserved for the Death of each living client,
 /// for open calls and for Yields.
 pub fn need(entries: &[Entry], entry: &Entry) -> u64
-    ensures value { result ≡ need_in (history entries.now ▷ entry.now) }
-    ensures small { result ≤ 5 * length entries.now + 5 }
+    ensures value { result ≡ need (history entries.now ▷ entry.now) }
+    ensures within { result ≤ 5 * length entries.now + 5 }
 {
-    living_by(entry, living(entries)) + reserved(entries, entry) + robust_owned(entries, entry)
+    living_count_by(entry, living(entries))
+        + reserved(entries, entry)
+        + robust_owned(entries, entry)
 }

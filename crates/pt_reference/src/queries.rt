@@ -1,16 +1,17 @@
 ghost use Rattle.std.specs.Prelude.{◌≡◌, filter, option_map};
 ghost use Rattle.pt_model.specs.Histories.{history};
 ghost use Rattle.pt_model.specs.Searches.{least};
-ghost use Rattle.pt_model.specs.WaitingCall.{at_place, stood};
-ghost use Rattle.pt_model.specs.Answers.{client_if, open_calls, told as told_in};
-ghost use Rattle.pt_model.specs.Forced.{expires_before as expires_before_it};
-ghost use Rattle.pt_model.specs.Queries.{caller as caller_in, caller_by as caller_after};
-ghost use Rattle.pt_model.specs.Queries.{latest as latest_in, latest_by as latest_after};
-ghost use Rattle.pt_model.specs.Queries.{told_if as told_meant, answer_of as answer_of_in};
-ghost use Rattle.pt_model.specs.Queries.{has_deadline as has_deadline_in};
-ghost use Rattle.pt_model.specs.Queries.{least_deadline as least_deadline_in};
-ghost use Rattle.pt_model.specs.Found.{keep};
-ghost use Rattle.pt_reference.specs.Telling.{client_told, shown_told, told_to};
+ghost use Rattle.pt_model.specs.WaitingCall.{call_at_place, waiting_calls};
+ghost use Rattle.pt_model.specs.Answers.{client_or_zero, open_calls, entry_replies};
+ghost use Rattle.pt_model.specs.Forced.{expires_before};
+ghost use Rattle.pt_model.specs.Queries.{caller, caller_by};
+ghost use Rattle.pt_model.specs.Queries.{latest_call, latest_call_by};
+ghost use Rattle.pt_model.specs.Queries.{reply_if, answer_of};
+ghost use Rattle.pt_model.specs.Queries.{has_deadline};
+ghost use Rattle.pt_model.specs.Queries.{least_deadline};
+ghost use Rattle.pt_model.specs.Found.{option_filter};
+ghost use Rattle.pt_reference.specs.PlainReplies.{client_of_reply, plain_reply_view};
+ghost use Rattle.pt_reference.specs.PlainReplies.{reply_at_place};
 
 use crate::forced::sooner;
 use pt_model::Entry;
@@ -23,7 +24,7 @@ use pt_types::{ClientId, Clock, Outcome};
 
 /// An answer: the client that gets it, the place of the call, and the outcome.
 #[derive(Clone, Copy, PartialEq, Eq)]
-pub struct Told {
+pub struct PlainReply {
     pub client: ClientId,
     /// The place of the call.
     pub place: u64,
@@ -38,7 +39,7 @@ pub fn caller_by(
     before: Option<ClientId>,
     j: u64,
 ) -> Option<ClientId>
-    ensures { result ≡ caller_after (history entries.now) entry.now before j }
+    ensures { result ≡ caller_by (history entries.now) entry.now before j }
 {
     match entry {
         Entry::Call(c, _, _) if j == entries.len() as u64 => Some(*c),
@@ -49,7 +50,7 @@ pub fn caller_by(
 /// Returns the client of the call at a place.
 #[tactic(auto, using(crate::proofs::Ends::one_more))]
 pub fn caller(entries: &[Entry], j: u64) -> Option<ClientId>
-    ensures { result ≡ caller_in (history entries.now) j }
+    ensures { result ≡ caller (history entries.now) j }
 {
     let mut found = None;
     for (i, entry) in entries.iter().enumerate() {
@@ -60,8 +61,13 @@ pub fn caller(entries: &[Entry], j: u64) -> Option<ClientId>
 
 /// Returns the place of a client's latest call, after an entry.
 #[tactic(auto, using(crate::proofs::Ends::place_of_all))]
-pub fn latest_by(entries: &[Entry], entry: &Entry, before: Option<u64>, c: ClientId) -> Option<u64>
-    ensures { result ≡ latest_after (history entries.now) entry.now before c }
+pub fn latest_call_by(
+    entries: &[Entry],
+    entry: &Entry,
+    before: Option<u64>,
+    c: ClientId,
+) -> Option<u64>
+    ensures { result ≡ latest_call_by (history entries.now) entry.now before c }
 {
     match entry {
         Entry::Call(d, _, _) if *d == c => Some(entries.len() as u64),
@@ -72,21 +78,21 @@ pub fn latest_by(entries: &[Entry], entry: &Entry, before: Option<u64>, c: Clien
 /// Returns the place of a client's latest call.
 #[tactic(auto, using(crate::proofs::Ends::one_more))]
 pub fn latest(entries: &[Entry], c: ClientId) -> Option<u64>
-    ensures { result ≡ latest_in (history entries.now) c }
+    ensures { result ≡ latest_call (history entries.now) c }
 {
     let mut found = None;
     for (i, entry) in entries.iter().enumerate() {
-        found = latest_by(&entries[..i], entry, found, c);
+        found = latest_call_by(&entries[..i], entry, found, c);
     }
     found
 }
 
 /// Returns the answer to a client's call at this place, if it has one.
-pub fn told_if(client: ClientId, place: u64, outcome: Option<Outcome>) -> Option<Told>
-    ensures { option_map shown_told result ≡ told_meant client place outcome }
+pub fn reply_if(client: ClientId, place: u64, outcome: Option<Outcome>) -> Option<PlainReply>
+    ensures { option_map plain_reply_view result ≡ reply_if client place outcome }
 {
     match outcome {
-        Some(outcome) => Some(Told {
+        Some(outcome) => Some(PlainReply {
             client,
             place,
             outcome,
@@ -96,14 +102,14 @@ pub fn told_if(client: ClientId, place: u64, outcome: Option<Outcome>) -> Option
 }
 
 /// Returns the answer to a living client's latest call.
-pub fn answer_of(entries: &[Entry], c: ClientId) -> Option<Told>
-    ensures { option_map shown_told result ≡ answer_of_in (history entries.now) c }
+pub fn answer_of(entries: &[Entry], c: ClientId) -> Option<PlainReply>
+    ensures { option_map plain_reply_view result ≡ answer_of (history entries.now) c }
 {
     if !is_alive(entries, c) {
         return None;
     }
     match latest(entries, c) {
-        Some(place) => told_if(c, place, outcome(entries, place)),
+        Some(place) => reply_if(c, place, outcome(entries, place)),
         None => None,
     }
 }
@@ -111,7 +117,7 @@ pub fn answer_of(entries: &[Entry], c: ClientId) -> Option<Told>
 /// Returns the client of the call that came without a reply at a place, or 0 if no such call
 /// exists.
 pub fn client_at(entries: &[Entry], j: u64) -> ClientId
-    ensures { result ≡ client_if (at_place j (stood (history entries.now))) }
+    ensures { result ≡ client_or_zero (call_at_place j (waiting_calls (history entries.now))) }
 {
     match waiting_call_at(entries, j) {
         Some(w) => w.client,
@@ -120,8 +126,8 @@ pub fn client_at(entries: &[Entry], j: u64) -> ClientId
 }
 
 /// Returns the client that gets the answer which an entry after these gives to the call at a place.
-pub fn told_client(entries: &[Entry], entry: &Entry, j: u64) -> ClientId
-    ensures { result ≡ client_told (history entries.now) entry.now j }
+pub fn reply_client(entries: &[Entry], entry: &Entry, j: u64) -> ClientId
+    ensures { result ≡ client_of_reply (history entries.now) entry.now j }
 {
     match entry {
         Entry::Call(c, _, _) => *c,
@@ -131,13 +137,14 @@ pub fn told_client(entries: &[Entry], entry: &Entry, j: u64) -> ClientId
 
 /// Returns the answer that an entry after these gives to the call at a place, if it gives one.
 /// [XSH, the call's page]
-#[tactic(auto, using(crate::proofs::Tellings::told_at_place))]
-pub fn told_at(entries: &[Entry], entry: &Entry, j: u64) -> Option<Told>
-    ensures { option_map shown_told result ≡ told_to j (told_in (history entries.now) entry.now) }
+#[tactic(auto, using(crate::proofs::Tellings::replies_at_place))]
+pub fn reply_of_entry(entries: &[Entry], entry: &Entry, j: u64) -> Option<PlainReply>
+    ensures { option_map plain_reply_view result
+        ≡ reply_at_place j (entry_replies (history entries.now) entry.now) }
 {
     let before = outcome(entries, j);
-    told_if(
-        told_client(entries, entry, j),
+    reply_if(
+        reply_client(entries, entry, j),
         j,
         answer_by(entries, entry, before, j),
     )
@@ -146,7 +153,7 @@ pub fn told_at(entries: &[Entry], entry: &Entry, j: u64) -> Option<Told>
 /// Returns true if a call has a deadline by this clock. A moved wait has none.
 /// [XSH pthread_cond_timedwait]
 pub fn has_deadline(entries: &[Entry], which: Clock, w: &WaitingCall) -> bool
-    ensures { result ≡ has_deadline_in (history entries.now) which w.now }
+    ensures { result ≡ has_deadline (history entries.now) which w.now }
 {
     w.deadline.is_some() && is_same_clock(w.clock, which) && !is_moved(entries, w)
 }
@@ -154,8 +161,8 @@ pub fn has_deadline(entries: &[Entry], which: Clock, w: &WaitingCall) -> bool
 /// Returns the open call at a place, if it has a deadline by this clock.
 pub fn timed_at(entries: &[Entry], which: Clock, i: u64) -> Option<WaitingCall>
     ensures { result
-        ≡ keep (has_deadline_in (history entries.now) which)
-        (at_place i (open_calls (history entries.now))) }
+        ≡ option_filter (has_deadline (history entries.now) which)
+        (call_at_place i (open_calls (history entries.now))) }
 {
     match open_at(entries, i) {
         Some(w) if has_deadline(entries, which, &w) => Some(w),
@@ -166,8 +173,8 @@ pub fn timed_at(entries: &[Entry], which: Clock, i: u64) -> Option<WaitingCall>
 /// Returns the call with the least deadline by this clock.
 pub fn first_timed(entries: &[Entry], which: Clock) -> Option<WaitingCall>
     ensures { result
-        ≡ least expires_before_it
-        (filter (has_deadline_in (history entries.now) which) (open_calls (history entries.now))) }
+        ≡ least expires_before
+        (filter (has_deadline (history entries.now) which) (open_calls (history entries.now))) }
 {
     let mut best = None;
     let mut i = entries.len();
@@ -180,7 +187,7 @@ pub fn first_timed(entries: &[Entry], which: Clock) -> Option<WaitingCall>
 
 /// Returns the least deadline by this clock of the open calls that were not moved, in nanoseconds.
 pub fn least_deadline(entries: &[Entry], which: Clock) -> Option<u64>
-    ensures { result ≡ least_deadline_in (history entries.now) which }
+    ensures { result ≡ least_deadline (history entries.now) which }
 {
     match first_timed(entries, which) {
         Some(w) => w.deadline,

@@ -1,9 +1,9 @@
 ghost use Rattle.std.specs.Prelude.{◌≡◌, ◌≤◌, ◌*◌, length};
 ghost use Rattle.pt_model.specs.Histories.{history, ◌▷◌};
-ghost use Rattle.pt_model.specs.Room.{need as need_in, entry_for as entry_for_in};
-ghost use Rattle.pt_model.specs.Room.{refusal_of_stranger as refusal_of_stranger_in};
-ghost use Rattle.pt_model.specs.Room.{refusal as refusal_in, is_over as is_over_in};
-ghost use Rattle.pt_model.specs.Room.{refusal_within as refusal_within_in};
+ghost use Rattle.pt_model.specs.Room.{need, entry_for};
+ghost use Rattle.pt_model.specs.Room.{refusal_of_unknown};
+ghost use Rattle.pt_model.specs.Room.{refusal, exceeds_limit};
+ghost use Rattle.pt_model.specs.Room.{refusal_within};
 
 use crate::after;
 use crate::verdicts::verdict;
@@ -11,13 +11,13 @@ use pt_model::{Entry, Event};
 use pt_readings::answers::open_place;
 use pt_readings::clients::{is_alive, living};
 use pt_types::tables::reply;
-use pt_types::{ClientId, MOST_CLIENTS, Refusal};
+use pt_types::{ClientId, MAX_CLIENTS, Refusal};
 
 /// Returns the need: the entries reserved for the Death of each living client, for open calls and
 /// for Yields.
 pub fn need(entries: &[Entry]) -> u64
-    ensures value { result ≡ need_in (history entries.now) }
-    ensures small { result ≤ 5 * length entries.now }
+    ensures value { result ≡ need (history entries.now) }
+    ensures within { result ≤ 5 * length entries.now }
 {
     if entries.is_empty() {
         return 0;
@@ -29,7 +29,7 @@ pub fn need(entries: &[Entry]) -> u64
 /// Returns the outer entry that an accepted event becomes.
 #[tactic(auto, using(crate::proofs::Ends::place_of_all))]
 pub fn entry_for(entries: &[Entry], event: &Event) -> Entry
-    ensures { result ≡ entry_for_in (history entries.now) event.now }
+    ensures { result ≡ entry_for (history entries.now) event.now }
 {
     match event {
         Event::Join(priority) => Entry::Join(ClientId(entries.len() as u64), *priority),
@@ -45,8 +45,8 @@ pub fn entry_for(entries: &[Entry], event: &Event) -> Entry
 /// Returns the refusal for a client that does not live: DEAD if a place has its number, else
 /// NOHELLO.
 #[tactic(auto, using(crate::proofs::Ends::place_of_all))]
-pub fn refusal_of_stranger(entries: &[Entry], c: ClientId) -> Refusal
-    ensures { result ≡ refusal_of_stranger_in (history entries.now) c }
+pub fn refusal_of_unknown(entries: &[Entry], c: ClientId) -> Refusal
+    ensures { result ≡ refusal_of_unknown (history entries.now) c }
 {
     if c.0 < entries.len() as u64 {
         Refusal::Dead
@@ -58,13 +58,13 @@ pub fn refusal_of_stranger(entries: &[Entry], c: ClientId) -> Refusal
 /// Returns why an event is refused because of its sender, or because 1,024 clients live; `None` if
 /// it is not refused for these reasons.
 pub fn refusal(entries: &[Entry], event: &Event) -> Option<Refusal>
-    ensures { result ≡ refusal_in (history entries.now) event.now }
+    ensures { result ≡ refusal (history entries.now) event.now }
 {
     match event {
-        Event::Join(_) if living(entries) >= MOST_CLIENTS as u64 => Some(Refusal::Limit),
-        Event::Call(c, _) if !is_alive(entries, *c) => Some(refusal_of_stranger(entries, *c)),
+        Event::Join(_) if living(entries) >= MAX_CLIENTS as u64 => Some(Refusal::Limit),
+        Event::Call(c, _) if !is_alive(entries, *c) => Some(refusal_of_unknown(entries, *c)),
         Event::Call(c, _) if open_place(entries, *c).is_some() => Some(Refusal::Blocked),
-        Event::Death(c) if !is_alive(entries, *c) => Some(refusal_of_stranger(entries, *c)),
+        Event::Death(c) if !is_alive(entries, *c) => Some(refusal_of_unknown(entries, *c)),
         _ => None,
     }
 }
@@ -72,7 +72,7 @@ pub fn refusal(entries: &[Entry], event: &Event) -> Option<Refusal>
 /// Returns true if a history with one more entry, and all entries reserved after it, is longer than
 /// the limit.
 pub fn is_over(entries: &[Entry], entry: &Entry, limit: u64) -> bool
-    ensures { result ≡ is_over_in limit (history entries.now ▷ entry.now) }
+    ensures { result ≡ exceeds_limit limit (history entries.now ▷ entry.now) }
 {
     limit < entries.len() as u64 + 1 + after::need(entries, entry)
 }
@@ -80,7 +80,7 @@ pub fn is_over(entries: &[Entry], entry: &Entry, limit: u64) -> bool
 /// Returns the first refusal that applies to an event, or `None`. The history may have at most
 /// `limit` entries.
 pub fn refusal_within(entries: &[Entry], limit: u64, event: &Event) -> Option<Refusal>
-    ensures { result ≡ refusal_within_in limit (history entries.now) event.now }
+    ensures { result ≡ refusal_within limit (history entries.now) event.now }
 {
     let refused = refusal(entries, event);
     if refused.is_some() {

@@ -1,36 +1,36 @@
 //! The verdict tables: what becomes of a call, from the view of one object.
 
 ghost use Rattle.std.specs.Prelude.{◌≡◌};
-ghost use Rattle.pt_types.specs.ObjectTable.{init_verdict as init_table};
-ghost use Rattle.pt_types.specs.ObjectTable.{is_bad_kind as is_bad};
-ghost use Rattle.pt_types.specs.Operations.{is_try as is_try_how, deadline_of as deadline_meant};
-ghost use Rattle.pt_types.specs.Times.{has_bad_deadline as has_bad};
-ghost use Rattle.pt_types.specs.MutexTable.{owns as owns_it, lock_verdict as lock_table};
-ghost use Rattle.pt_types.specs.MutexTable.{unlock_verdict as unlock_table};
-ghost use Rattle.pt_types.specs.MutexTable.{consistent_verdict as consistent_table};
-ghost use Rattle.pt_types.specs.MutexTable.{is_lost as is_lost_consistency};
-ghost use Rattle.pt_types.specs.MutexTable.{may_relock as may_relock_it};
-ghost use Rattle.pt_types.specs.RwlockTable.{holds as holds_it, is_free as is_free_lock};
-ghost use Rattle.pt_types.specs.RwlockTable.{relock_outcome as outcome_of_relock};
-ghost use Rattle.pt_types.specs.RwlockTable.{read_verdict as read_table};
-ghost use Rattle.pt_types.specs.RwlockTable.{write_verdict as write_table};
-ghost use Rattle.pt_types.specs.RwlockTable.{rwunlock_verdict as rwunlock_table};
-ghost use Rattle.pt_types.specs.RwlockTable.{may_read as may_read_it, may_write as may_write_it};
-ghost use Rattle.pt_types.specs.CondTable.{wait_verdict as wait_table};
+ghost use Rattle.pt_types.specs.ObjectTable.{init_verdict};
+ghost use Rattle.pt_types.specs.ObjectTable.{is_invalid_kind};
+ghost use Rattle.pt_types.specs.Operations.{is_try, deadline_of};
+ghost use Rattle.pt_types.specs.Times.{has_invalid_deadline};
+ghost use Rattle.pt_types.specs.MutexTable.{owns as owns_it, lock_verdict};
+ghost use Rattle.pt_types.specs.MutexTable.{unlock_verdict};
+ghost use Rattle.pt_types.specs.MutexTable.{consistent_verdict};
+ghost use Rattle.pt_types.specs.MutexTable.{is_not_recoverable};
+ghost use Rattle.pt_types.specs.MutexTable.{can_grant_relock};
+ghost use Rattle.pt_types.specs.RwlockTable.{has_lock, is_free};
+ghost use Rattle.pt_types.specs.RwlockTable.{relock_outcome};
+ghost use Rattle.pt_types.specs.RwlockTable.{read_verdict};
+ghost use Rattle.pt_types.specs.RwlockTable.{write_verdict};
+ghost use Rattle.pt_types.specs.RwlockTable.{rwunlock_verdict};
+ghost use Rattle.pt_types.specs.RwlockTable.{can_grant_read, can_grant_write};
+ghost use Rattle.pt_types.specs.CondTable.{wait_verdict};
 
 use pt_types::views::{MutexView, RwlockView};
 use pt_types::{
-    ClientId, Consistency, Deadline, How, MOST_AT_BARRIER, MOST_LOCKS, MOST_OBJECTS, MOST_READS,
-    MutexKind, ObjectId, ObjectKind, Outcome, Verdict,
+    ClientId, Consistency, Deadline, How, MAX_BARRIER_COUNT, MAX_LOCKS, MAX_OBJECTS,
+    MAX_READ_LOCKS, MutexKind, ObjectId, ObjectKind, Outcome, Verdict,
 };
 
 // Returns true if a barrier's count is outside 1 to 1,024.
 // [XSH pthread_barrier_init, the upper end is profile]
-fn is_bad_kind(kind: ObjectKind) -> bool
-    ensures { result ≡ is_bad kind }
+fn is_invalid_kind(kind: ObjectKind) -> bool
+    ensures { result ≡ is_invalid_kind kind }
 {
     match kind {
-        ObjectKind::Barrier(count) => count == 0 || count > MOST_AT_BARRIER as u64,
+        ObjectKind::Barrier(count) => count == 0 || count > MAX_BARRIER_COUNT as u64,
         _ => false,
     }
 }
@@ -38,13 +38,13 @@ fn is_bad_kind(kind: ObjectKind) -> bool
 /// Returns the verdict of a call that makes an object while `objects` exist; EBUSY is profile.
 /// [XSH pthread_mutex_init, EAGAIN]
 pub fn init_verdict(kind: ObjectKind, in_use: bool, objects: u64) -> Verdict
-    ensures { result ≡ init_table kind in_use objects }
+    ensures { result ≡ init_verdict kind in_use objects }
 {
-    if is_bad_kind(kind) {
+    if is_invalid_kind(kind) {
         Verdict::Reply(Outcome::Einval)
     } else if in_use {
         Verdict::Reply(Outcome::Ebusy)
-    } else if objects >= MOST_OBJECTS as u64 {
+    } else if objects >= MAX_OBJECTS as u64 {
         Verdict::Reply(Outcome::Eagain)
     } else {
         Verdict::Reply(Outcome::Done)
@@ -53,15 +53,15 @@ pub fn init_verdict(kind: ObjectKind, in_use: bool, objects: u64) -> Verdict
 
 // Returns true if a call for a lock never waits.  [XSH pthread_mutex_trylock]
 fn is_try(how: &How) -> bool
-    ensures { result ≡ is_try_how how.now }
+    ensures { result ≡ is_try how.now }
 {
     matches!(how, How::Try)
 }
 
 // Returns true if a call has a deadline that is not a valid time.
 // [XSH pthread_mutex_timedlock, EINVAL]
-fn has_bad_deadline(deadline: Option<Deadline>) -> bool
-    ensures { result ≡ has_bad deadline }
+fn has_invalid_deadline(deadline: Option<Deadline>) -> bool
+    ensures { result ≡ has_invalid_deadline deadline }
 {
     match deadline {
         Some(deadline) => deadline.is_bad(),
@@ -72,7 +72,7 @@ fn has_bad_deadline(deadline: Option<Deadline>) -> bool
 // Returns true if a call for a lock has a deadline that is not a valid time.
 // [XSH pthread_mutex_timedlock, EINVAL]
 fn is_bad_how(how: &How) -> bool
-    ensures { result ≡ has_bad (deadline_meant how.now) }
+    ensures { result ≡ has_invalid_deadline (deadline_of how.now) }
 {
     match how {
         How::Timed(deadline) => deadline.is_bad(),
@@ -93,13 +93,13 @@ pub fn owns(m: &MutexView, c: ClientId) -> bool
 /// Returns the verdict of `lock`, `trylock` or `timedlock`.
 /// [XSH pthread_mutex_lock, pthread_mutex_timedlock]
 pub fn lock_verdict(m: &MutexView, c: ClientId, how: &How) -> Verdict
-    ensures { result ≡ lock_table m.now c how.now }
+    ensures { result ≡ lock_verdict m.now c how.now }
 {
-    if is_lost(m.consistency) || m.owner.is_none() {
+    if is_not_recoverable(m.consistency) || m.owner.is_none() {
         return Verdict::Stands;
     }
     if owns(m, c) && m.kind == MutexKind::Recursive {
-        if m.count < MOST_LOCKS as u64 {
+        if m.count < MAX_LOCKS as u64 {
             return Verdict::Reply(Outcome::Done);
         }
         return Verdict::Reply(Outcome::Eagain);
@@ -118,7 +118,7 @@ pub fn lock_verdict(m: &MutexView, c: ClientId, how: &How) -> Verdict
 /// Returns the verdict of `unlock`; EPERM is profile if the standard leaves it open.
 /// [XSH pthread_mutex_unlock]
 pub fn unlock_verdict(m: &MutexView, c: ClientId) -> Verdict
-    ensures { result ≡ unlock_table m.now c }
+    ensures { result ≡ unlock_verdict m.now c }
 {
     if owns(m, c) {
         Verdict::Reply(Outcome::Done)
@@ -129,7 +129,7 @@ pub fn unlock_verdict(m: &MutexView, c: ClientId) -> Verdict
 
 /// Returns the verdict of `consistent`; EPERM is profile.  [XSH pthread_mutex_consistent]
 pub fn consistent_verdict(m: &MutexView, c: ClientId) -> Verdict
-    ensures { result ≡ consistent_table m.now c }
+    ensures { result ≡ consistent_verdict m.now c }
 {
     if !m.robust || m.consistency != Consistency::Inconsistent {
         Verdict::Reply(Outcome::Einval)
@@ -141,15 +141,15 @@ pub fn consistent_verdict(m: &MutexView, c: ClientId) -> Verdict
 }
 
 /// Returns true if the mutex is permanently unusable.  [XSH pthread_mutex_lock, ENOTRECOVERABLE]
-pub fn is_lost(consistency: Consistency) -> bool
-    ensures { result ≡ is_lost_consistency consistency }
+pub fn is_not_recoverable(consistency: Consistency) -> bool
+    ensures { result ≡ is_not_recoverable consistency }
 {
     matches!(consistency, Consistency::NotRecoverable)
 }
 
 /// Returns true if a moved wait can relock the mutex that its own client holds.
-pub fn may_relock(m: &MutexView, c: ClientId) -> bool
-    ensures { result ≡ may_relock_it m.now c }
+pub fn can_grant_relock(m: &MutexView, c: ClientId) -> bool
+    ensures { result ≡ can_grant_relock m.now c }
 {
     m.kind == MutexKind::Recursive && owns(m, c)
 }
@@ -157,14 +157,14 @@ pub fn may_relock(m: &MutexView, c: ClientId) -> bool
 // Returns true if the caller holds the lock, for reading or for writing.
 // [XSH pthread_rwlock_unlock]
 fn holds(r: RwlockView) -> bool
-    ensures { result ≡ holds_it r }
+    ensures { result ≡ has_lock r }
 {
     r.writes || 0 < r.reads
 }
 
 // Returns true if nobody holds the lock.  [XSH pthread_rwlock_wrlock]
 fn is_free(r: RwlockView) -> bool
-    ensures { result ≡ is_free_lock r }
+    ensures { result ≡ is_free r }
 {
     !r.is_written && !r.is_read
 }
@@ -172,7 +172,7 @@ fn is_free(r: RwlockView) -> bool
 // Returns the answer to a holder that asks for the lock again; it is profile.
 // [XSH pthread_rwlock_wrlock]
 fn relock_outcome(tries: bool) -> Outcome
-    ensures { result ≡ outcome_of_relock tries }
+    ensures { result ≡ relock_outcome tries }
 {
     if tries {
         Outcome::Ebusy
@@ -184,12 +184,12 @@ fn relock_outcome(tries: bool) -> Outcome
 /// Returns the verdict of `rdlock`, `tryrdlock` or `timedrdlock`. A client that holds a read lock
 /// is not held back, which is a deviation.  [XSH pthread_rwlock_rdlock]
 pub fn read_verdict(r: RwlockView, blocked: bool, how: &How) -> Verdict
-    ensures { result ≡ read_table r blocked how.now }
+    ensures { result ≡ read_verdict r blocked how.now }
 {
     if r.writes {
         return Verdict::Reply(relock_outcome(is_try(how)));
     }
-    if r.reads >= MOST_READS as u64 {
+    if r.reads >= MAX_READ_LOCKS as u64 {
         return Verdict::Reply(Outcome::Eagain);
     }
     if 0 < r.reads || !r.is_written && !blocked {
@@ -207,7 +207,7 @@ pub fn read_verdict(r: RwlockView, blocked: bool, how: &How) -> Verdict
 /// Returns the verdict of `wrlock`, `trywrlock` or `timedwrlock`.
 /// [XSH pthread_rwlock_wrlock, pthread_rwlock_timedwrlock]
 pub fn write_verdict(r: RwlockView, how: &How) -> Verdict
-    ensures { result ≡ write_table r how.now }
+    ensures { result ≡ write_verdict r how.now }
 {
     if holds(r) {
         return Verdict::Reply(relock_outcome(is_try(how)));
@@ -226,7 +226,7 @@ pub fn write_verdict(r: RwlockView, how: &How) -> Verdict
 
 /// Returns the verdict of `rwunlock`; EPERM is profile.  [XSH pthread_rwlock_unlock]
 pub fn rwunlock_verdict(r: RwlockView) -> Verdict
-    ensures { result ≡ rwunlock_table r }
+    ensures { result ≡ rwunlock_verdict r }
 {
     if holds(r) {
         Verdict::Reply(Outcome::Done)
@@ -237,16 +237,16 @@ pub fn rwunlock_verdict(r: RwlockView) -> Verdict
 
 /// Returns true if a reader can have the lock. A holder of a read lock passes waiting writers,
 /// which is a deviation.  [XSH pthread_rwlock_rdlock]
-pub fn may_read(r: RwlockView, blocked: bool) -> bool
-    ensures { result ≡ may_read_it r blocked }
+pub fn can_grant_read(r: RwlockView, blocked: bool) -> bool
+    ensures { result ≡ can_grant_read r blocked }
 {
     !r.is_written && (!blocked || 0 < r.reads)
 }
 
 /// Returns true if a writer can have the lock: nobody holds it, and the writer is least.
 /// [XSH pthread_rwlock_unlock]
-pub fn may_write(r: RwlockView, is_least: bool) -> bool
-    ensures { result ≡ may_write_it r is_least }
+pub fn can_grant_write(r: RwlockView, is_least: bool) -> bool
+    ensures { result ≡ can_grant_write r is_least }
 {
     is_free(r) && is_least
 }
@@ -259,13 +259,13 @@ pub fn wait_verdict(
     owns: bool,
     deadline: Option<Deadline>,
 ) -> Verdict
-    ensures { result ≡ wait_table (record { bound = bound }) mutex owns deadline }
+    ensures { result ≡ wait_verdict (record { bound = bound }) mutex owns deadline }
 {
-    let is_elsewhere = match bound {
+    let is_bound_elsewhere = match bound {
         Some(other) => other != mutex,
         None => false,
     };
-    if has_bad_deadline(deadline) || is_elsewhere {
+    if has_invalid_deadline(deadline) || is_bound_elsewhere {
         Verdict::Reply(Outcome::Einval)
     } else if !owns {
         Verdict::Reply(Outcome::Eperm)

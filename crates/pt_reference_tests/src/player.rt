@@ -6,7 +6,7 @@ use crate::showing::write_entry;
 use anyhow::{Context, Result, bail};
 use pt_model::{Entry, Event};
 use pt_reference::forced::forced;
-use pt_reference::queries::told_at;
+use pt_reference::queries::reply_of_entry;
 use pt_reference::room::{entry_for, refusal_within};
 use std::alloc::{AllocError, Global};
 
@@ -14,13 +14,13 @@ use std::alloc::{AllocError, Global};
 const LIMIT: u64 = 1 << 20;
 
 // The most entries that may follow an event of these scripts.
-const MOST_FORCED: u64 = 100;
+const MAX_FORCED: u64 = 100;
 
 // Enters an event, and all entries that must follow it.
 fn enter(entries: &mut Vec<Entry>, event: &Event) -> Result<()> {
     let entry = entry_for(entries, event);
     entries.push(entry)?;
-    for _ in 0..MOST_FORCED {
+    for _ in 0..MAX_FORCED {
         match forced(entries) {
             Some(entry) => entries.push(entry)?,
             None => return Ok(()),
@@ -30,14 +30,14 @@ fn enter(entries: &mut Vec<Entry>, event: &Event) -> Result<()> {
 }
 
 // Writes the answer that an entry gives to the call at a place, if it gives one.
-fn write_told(
+fn write_reply_line(
     text: &mut String,
     before: &[Entry],
     entry: &Entry,
     place: u64,
 ) -> Result<(), AllocError> {
-    if let Some(told) = told_at(before, entry, place) {
-        let (client, word) = (told.client.0, told.outcome.word());
+    if let Some(reply) = reply_of_entry(before, entry, place) {
+        let (client, word) = (reply.client.0, reply.outcome.word());
         write!(text, ", {client} {place} {word}")?;
     }
     Ok(())
@@ -49,7 +49,7 @@ fn write_line(text: &mut String, entries: &[Entry], i: usize) -> Result<(), Allo
 {
     write_entry(text, i, &entries[i])?;
     for place in 0..entries.len() {
-        write_told(text, &entries[..i], &entries[i], place as u64)?;
+        write_reply_line(text, &entries[..i], &entries[i], place as u64)?;
     }
     writeln!(text)
 }

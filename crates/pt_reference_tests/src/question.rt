@@ -38,8 +38,8 @@ fn write_answer_of(
     client: ClientId,
 ) -> Result<(), AllocError> {
     match answer_of(entries, client) {
-        Some(told) => {
-            let (client, place, word) = (told.client.0, told.place, told.outcome.word());
+        Some(reply) => {
+            let (client, place, word) = (reply.client.0, reply.place, reply.outcome.word());
             writeln!(text, "{client} {place} {word}")
         }
         None => writeln!(text, "none"),

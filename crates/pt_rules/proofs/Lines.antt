@@ -1,13 +1,14 @@
 -- A table decides as the first of its lines that applies says.
 use Rattle.std.proofs.Common.{◌≡◌, ℕ, ◌==◌, List, [], ◌∷◌, Bool, true, false, not, ◌&&◌, ◌||◌}
 use Rattle.std.proofs.Common.{is_none, nat_le, nat_lt, refl, ◌∙◌}
-use Rattle.pt_types.specs.Limits.{most_at_barrier, most_locks, most_objects, most_reads}
-use Rattle.pt_types.specs.Times.{has_bad_deadline}
+use Rattle.pt_types.specs.Limits.{max_barrier_count, max_locks, max_objects, max_read_locks}
+use Rattle.pt_types.specs.Times.{has_invalid_deadline}
 use Rattle.pt_types.specs.Operations.{deadline_of, is_try}
-use Rattle.pt_types.specs.MutexTable.{is_errorcheck, is_inconsistent, is_lost, is_recursive, owns}
+use Rattle.pt_types.specs.MutexTable.{is_errorcheck, is_inconsistent, is_not_recoverable}
+use Rattle.pt_types.specs.MutexTable.{is_recursive, owns}
 use Rattle.pt_types.specs.RwlockTable.{relock_outcome}
-use Rattle.pt_types.specs.ObjectTable.{is_bad_kind}
-use Rattle.pt_types.specs.CondTable.{is_elsewhere}
+use Rattle.pt_types.specs.ObjectTable.{is_invalid_kind}
+use Rattle.pt_types.specs.CondTable.{is_bound_elsewhere}
 use Rattle.pt_types.specs.declared.call.ObjectKind.{ObjectKind}
 use Rattle.pt_types.specs.declared.call.ObjectKind.TheVariants.{Mutex, Rwlock, Cond, Barrier}
 use Rattle.pt_types.specs.declared.outcome.Outcome.TheVariants.{Done, Eagain, Ebusy, Edeadlk}
@@ -25,16 +26,16 @@ use Rattle.pt_rules.specs.declared.rwlock.RwunlockRule.TheVariants as rwunlock
 use Rattle.pt_rules.specs.declared.cond.WaitRule.TheVariants as wait
 use Rattle.pt_rules.specs.declared.object.InitRule.TheVariants as init
 use Rattle.pt_rules.specs.declared.object.DestroyRule.TheVariants as destroy
-use Rattle.pt_rules.specs.MutexRules.{ConsistentRules, said_by_consistent_rule}
-use Rattle.pt_rules.specs.MutexRules.{LockRules, is_open, said_by_lock_rule}
-use Rattle.pt_rules.specs.MutexRules.{UnlockRules, said_by_unlock_rule}
-use Rattle.pt_rules.specs.RwlockRules.{ReadRules, read_lines, said_by_read_rule}
-use Rattle.pt_rules.specs.RwlockRules.{WriteRules, said_by_write_rule, write_lines}
-use Rattle.pt_rules.specs.RwlockRules.{RwunlockRules, rwunlock_lines, said_by_rwunlock_rule}
-use Rattle.pt_rules.specs.CondRules.{WaitRules, is_left_open, said_by_wait_rule}
+use Rattle.pt_rules.specs.MutexRules.{ConsistentRules, outcome_by_consistent_rule}
+use Rattle.pt_rules.specs.MutexRules.{LockRules, is_open, outcome_by_lock_rule}
+use Rattle.pt_rules.specs.MutexRules.{UnlockRules, outcome_by_unlock_rule}
+use Rattle.pt_rules.specs.RwlockRules.{ReadRules, read_lines, outcome_by_read_rule}
+use Rattle.pt_rules.specs.RwlockRules.{WriteRules, outcome_by_write_rule, write_lines}
+use Rattle.pt_rules.specs.RwlockRules.{RwunlockRules, rwunlock_lines, outcome_by_rwunlock_rule}
+use Rattle.pt_rules.specs.CondRules.{WaitRules, stays_open, outcome_by_wait_rule}
 use Rattle.pt_rules.specs.ObjectRules.{InitRules, init_lines, is_empty_barrier}
-use Rattle.pt_rules.specs.ObjectRules.{said_by_init_rule}
-use Rattle.pt_rules.specs.ObjectRules.{DestroyRules, destroy_lines, said_by_destroy_rule}
+use Rattle.pt_rules.specs.ObjectRules.{outcome_by_init_rule}
+use Rattle.pt_rules.specs.ObjectRules.{DestroyRules, destroy_lines, outcome_by_destroy_rule}
 
 -- a table with the verdicts of its lines decides as the first line that applies says
 decides :
@@ -46,15 +47,15 @@ decides said ((false, r) ∷ lines) last = decides said lines last
 
 pub lock_rules : LockRules
 lock_rules m c how =
-    go (is_lost m.consistency) (is_none m.owner)
-    (owns m c && (is_recursive m.kind && nat_lt m.count most_locks))
+    go (is_not_recoverable m.consistency) (is_none m.owner)
+    (owns m c && (is_recursive m.kind && nat_lt m.count max_locks))
     (owns m c && is_recursive m.kind) (is_try how) (owns m c && is_errorcheck m.kind)
-    (has_bad_deadline (deadline_of how)) (owns m c)
+    (has_invalid_deadline (deadline_of how)) (owns m c)
   where
     go : (lost free less full try check bad own : Bool)
         → decide ((lost, Stands) ∷ (free, Stands) ∷ (less, Reply Done) ∷ (full, Reply Eagain)
         ∷ (try, Reply Ebusy) ∷ (check, Reply Edeadlk) ∷ (bad, Reply Einval) ∷ []) Stands
-        ≡ said_by_lock_rule (first_that_applies ((lost, lock.Lost) ∷ (free, lock.Free)
+        ≡ outcome_by_lock_rule (first_that_applies ((lost, lock.Unrecoverable) ∷ (free, lock.Free)
         ∷ (less, lock.Relocked) ∷ (full, lock.TooOften) ∷ (try, lock.Tried)
         ∷ (check, lock.Deadlocks) ∷ (bad, lock.BadTime) ∷ (own, lock.Relocks) ∷ []) lock.Waits)
     go true free less full try check bad own = refl
@@ -79,7 +80,7 @@ unlock_rules m c = go (owns m c) (is_open m) (nat_lt 1 m.count) (is_inconsistent
   where
     go : (own left more lost : Bool)
         → decide ((not own, Reply Eperm) ∷ []) (Reply Done)
-        ≡ said_by_unlock_rule (first_that_applies ((not own && left, unlock.Undefined)
+        ≡ outcome_by_unlock_rule (first_that_applies ((not own && left, unlock.Undefined)
         ∷ (not own, unlock.NotOwner) ∷ (more, unlock.Counts) ∷ (lost, unlock.Loses) ∷ [])
         unlock.GivesBack)
     go false true more lost = refl
@@ -93,7 +94,7 @@ consistent_rules m c = go m.robust (is_inconsistent m.consistency) (owns m c)
   where
     go : (robust lost own : Bool)
         → decide ((not (robust && lost), Reply Einval) ∷ (not own, Reply Eperm) ∷ []) (Reply Done)
-        ≡ said_by_consistent_rule (first_that_applies ((not robust, consistent.NotRobust)
+        ≡ outcome_by_consistent_rule (first_that_applies ((not robust, consistent.NotRobust)
         ∷ (not lost, consistent.NotInconsistent) ∷ (not own, consistent.NotOwner) ∷ [])
         consistent.Restores)
     go false lost own = refl
@@ -103,14 +104,14 @@ consistent_rules m c = go m.robust (is_inconsistent m.consistency) (owns m c)
 
 pub read_rules : ReadRules
 read_rules r blocked how =
-    go r.writes (nat_le most_reads r.reads)
-    ∙ decides (said_by_read_rule how) (read_lines r blocked how) read.Waits
+    go r.writes (nat_le max_read_locks r.reads)
+    ∙ decides (outcome_by_read_rule how) (read_lines r blocked how) read.Waits
   where
     rest : List (Bool × Verdict)
     rest =
         (not r.is_written && not blocked, Stands)
         ∷ (is_try how, Reply Ebusy)
-        ∷ (has_bad_deadline (deadline_of how), Reply Einval)
+        ∷ (has_invalid_deadline (deadline_of how), Reply Einval)
         ∷ []
 
     go : (writes full : Bool)
@@ -123,19 +124,19 @@ read_rules r blocked how =
     go false false = split (nat_lt 0 r.reads) blocked Stands rest Stands
 
 pub write_rules : WriteRules
-write_rules r how = decides (said_by_write_rule how) (write_lines r how) write.Waits
+write_rules r how = decides (outcome_by_write_rule how) (write_lines r how) write.Waits
 
 pub rwunlock_rules : RwunlockRules
-rwunlock_rules r = decides said_by_rwunlock_rule (rwunlock_lines r) rwunlock.GivesBack
+rwunlock_rules r = decides outcome_by_rwunlock_rule (rwunlock_lines r) rwunlock.GivesBack
 
 pub wait_rules : WaitRules
 wait_rules q n m c due =
-    go (has_bad_deadline due) (is_elsewhere q.bound n) (owns m c) (is_left_open m)
+    go (has_invalid_deadline due) (is_bound_elsewhere q.bound n) (owns m c) (stays_open m)
     (nat_lt 1 m.count) (is_inconsistent m.consistency)
   where
     go : (bad other own left more lost : Bool)
         → decide ((bad, Reply Einval) ∷ (other, Reply Einval) ∷ (not own, Reply Eperm) ∷ []) Stands
-        ≡ said_by_wait_rule (first_that_applies ((bad, wait.BadTime) ∷ (other, wait.OtherMutex)
+        ≡ outcome_by_wait_rule (first_that_applies ((bad, wait.BadTime) ∷ (other, wait.OtherMutex)
         ∷ (not own && left, wait.Undefined) ∷ (not own, wait.NotOwner) ∷ (more, wait.Counts)
         ∷ (lost, wait.Loses) ∷ []) wait.Waits)
     go true other own left more lost = refl
@@ -149,10 +150,10 @@ wait_rules q n m c due =
 pub init_rules : InitRules
 init_rules kind in_use objects =
     first kind
-    ∙ decides said_by_init_rule (init_lines kind in_use objects) init.Makes
+    ∙ decides outcome_by_init_rule (init_lines kind in_use objects) init.Inits
   where
     rest : List (Bool × Verdict)
-    rest = (in_use, Reply Ebusy) ∷ (nat_le most_objects objects, Reply Eagain) ∷ []
+    rest = (in_use, Reply Ebusy) ∷ (nat_le max_objects objects, Reply Eagain) ∷ []
 
     early : (none bad : Bool)
         → decide ((none || bad, Reply Einval) ∷ rest) (Reply Done)
@@ -161,13 +162,13 @@ init_rules kind in_use objects =
     early false bad = refl
 
     first : (k : ObjectKind)
-        → decide ((is_bad_kind k, Reply Einval) ∷ rest) (Reply Done)
-        ≡ decide ((is_empty_barrier k, Reply Einval) ∷ (is_bad_kind k, Reply Einval) ∷ rest)
+        → decide ((is_invalid_kind k, Reply Einval) ∷ rest) (Reply Done)
+        ≡ decide ((is_empty_barrier k, Reply Einval) ∷ (is_invalid_kind k, Reply Einval) ∷ rest)
         (Reply Done)
-    first (Barrier count) = early (count == 0) (nat_lt most_at_barrier count)
+    first (Barrier count) = early (count == 0) (nat_lt max_barrier_count count)
     first (Mutex kind robust) = refl
     first Rwlock = refl
     first Cond = refl
 
 pub destroy_rules : DestroyRules
-destroy_rules busy = decides said_by_destroy_rule (destroy_lines busy) destroy.Ends
+destroy_rules busy = decides outcome_by_destroy_rule (destroy_lines busy) destroy.Ends

@@ -8,7 +8,7 @@ use Rattle.pt_types.specs.declared.outcome.Outcome.TheVariants.{Enotrecoverable,
 use Rattle.pt_types.specs.declared.outcome.Outcome.TheVariants.{Etimedout}
 use Rattle.pt_types.specs.declared.outcome.Refusal.{Refusal}
 use Rattle.pt_types.specs.declared.outcome.Refusal.TheVariants as refusal
-use Rattle.pt_types.specs.Operations.{Operation, Acquires, Awaits, operation}
+use Rattle.pt_types.specs.Operations.{Operation, Acquires, CondWaits, operation}
 use Rattle.pt_model.specs.declared.entry.Entry.{Entry}
 use Rattle.pt_model.specs.declared.entry.Entry.TheVariants as entry
 use Rattle.pt_model.specs.declared.entry.Event.{Event}
@@ -36,9 +36,9 @@ refusal_reason refusal.Full = (codes "the history has no room", codes "profile")
 refusal_reason refusal.Enomem = (codes "memory was refused", codes "profile")
 
 -- whether a clock shows this moment already, or a later one  [profile]
-abbrev pub is_shown : Option ℕ → ℕ → Bool
-is_shown None t = false
-is_shown (Some now) t = nat_le t now
+abbrev pub is_clock_at : Option ℕ → ℕ → Bool
+is_clock_at None t = false
+is_clock_at (Some now) t = nat_le t now
 
 -- why the process of a client ends, which has an open call or none  [profile]
 abbrev pub death_reason : (has_open : Bool) → List ℕ × List ℕ
@@ -46,7 +46,7 @@ death_reason true = (codes "its process ends, its call is open", codes "profile"
 death_reason false = (codes "its process ends", codes "profile")
 
 -- what a moment of a clock changes, which shows it already or not  [profile]
-abbrev pub moment_reason : (shown : Bool) → List ℕ × List ℕ
+abbrev pub moment_reason : (reached : Bool) → List ℕ × List ℕ
 moment_reason true = (codes "the clock shows as much already", codes "profile")
 moment_reason false = (codes "the clock shows this from now on", codes "profile")
 
@@ -55,27 +55,27 @@ abbrev pub event_reason : History → Event → List ℕ × List ℕ
 event_reason h (event.Join p) = (codes "a process starts", codes "profile")
 event_reason h (event.Call c call) = rule_reason (page_of call) (call_rule h c call)
 event_reason h (event.Death c) = death_reason (is_some (open_place h c))
-event_reason h (event.Moment k t) = moment_reason (is_shown (clock h k) t)
+event_reason h (event.Moment k t) = moment_reason (is_clock_at (clock h k) t)
 
 -- what a call that is answered 0 by a Grant has now, by what it does
-abbrev pub had_by : Operation → GrantRule
-had_by (Acquires n MutexLock how) = grant.Mutex
-had_by (Acquires n ReadLock how) = grant.Read
-had_by (Acquires n WriteLock how) = grant.Write
-had_by (Awaits n k due) = grant.Again
-had_by _ = grant.Served
+abbrev pub grant_rule_of : Operation → GrantRule
+grant_rule_of (Acquires n MutexLock how) = grant.Mutex
+grant_rule_of (Acquires n ReadLock how) = grant.Read
+grant_rule_of (Acquires n WriteLock how) = grant.Write
+grant_rule_of (CondWaits n k due) = grant.Relock
+grant_rule_of _ = grant.Served
 
 -- the same, if the call is known: a seal drops its words
-abbrev pub had_by_call : Option Call → GrantRule
-had_by_call None = grant.Served
-had_by_call (Some call) = had_by (operation call)
+abbrev pub grant_rule_of_call : Option Call → GrantRule
+grant_rule_of_call None = grant.Served
+grant_rule_of_call (Some call) = grant_rule_of (operation call)
 
 -- the rule for a Grant with this outcome, of this call
 abbrev pub grant_rule : Outcome → Option Call → GrantRule
-grant_rule Enotrecoverable call = grant.Lost
+grant_rule Enotrecoverable call = grant.Unrecoverable
 grant_rule Eownerdead call = grant.Inconsistent
 grant_rule Etimedout call = grant.Late
-grant_rule _ call = had_by_call call
+grant_rule _ call = grant_rule_of_call call
 
 -- the source of a Grant: the page of its call if that comes with it, else the page given
 abbrev pub granted_on : (page : List ℕ) → (at_once : Bool) → List ℕ → List ℕ
@@ -84,7 +84,7 @@ granted_on page false later = later
 
 -- the words and the source of a Grant, of a call on this page that comes with it or waited
 abbrev pub grant_reason : (page : List ℕ) → (at_once : Bool) → GrantRule → List ℕ × List ℕ
-grant_reason page at_once grant.Lost = (
+grant_reason page at_once grant.Unrecoverable = (
   codes "the mutex is not recoverable",
   granted_on (codes "XSH mutex_consistent") at_once (codes "profile"),
 )
@@ -94,7 +94,7 @@ grant_reason page at_once grant.Late =
     (codes "has the mutex again, after its deadline", codes "XSH cond_timedwait")
 grant_reason page at_once grant.Mutex =
     (codes "has the mutex", granted_on page at_once (codes "XSH mutex_unlock"))
-grant_reason page at_once grant.Again = (codes "has the mutex again", codes "XSH mutex_unlock")
+grant_reason page at_once grant.Relock = (codes "has the mutex again", codes "XSH mutex_unlock")
 grant_reason page at_once grant.Read =
     (codes "has a read lock", granted_on page at_once (codes "XSH rwlock_unlock"))
 grant_reason page at_once grant.Write =
@@ -103,7 +103,7 @@ grant_reason page at_once grant.Served = (codes "has its lock", codes "XSH 2.8.4
 
 -- what becomes of an expired call, by what it does
 abbrev pub expired_by : Operation → ExpireRule
-expired_by (Awaits n k due) = expire.Moves
+expired_by (CondWaits n k due) = expire.Moves
 expired_by _ = expire.Ends
 
 -- the rule for an Expire of this call: a seal drops its words

@@ -1,10 +1,11 @@
 -- MutexRules: the lines of the tables of mutexes, in the order of docs/RULES.md.
 use Rattle.std.specs.Prelude.{◌≡◌, ℕ, not, ◌&&◌, List, [], ◌∷◌, Bool, true, false, is_none}
 use Rattle.std.specs.Prelude.{nat_lt}
-use Rattle.pt_types.specs.Limits.{most_locks}
-use Rattle.pt_types.specs.Times.{has_bad_deadline}
+use Rattle.pt_types.specs.Limits.{max_locks}
+use Rattle.pt_types.specs.Times.{has_invalid_deadline}
 use Rattle.pt_types.specs.Operations.{is_try, deadline_of}
-use Rattle.pt_types.specs.MutexTable.{is_lost, owns, is_recursive, is_errorcheck, is_inconsistent}
+use Rattle.pt_types.specs.MutexTable.{is_not_recoverable, owns, is_recursive, is_errorcheck}
+use Rattle.pt_types.specs.MutexTable.{is_inconsistent}
 use Rattle.pt_types.specs.MutexTable.{consistent_verdict, lock_verdict, unlock_verdict}
 use Rattle.pt_types.specs.declared.call.How.{How}
 use Rattle.pt_types.specs.declared.call.MutexKind.{MutexKind}
@@ -16,8 +17,8 @@ use Rattle.pt_types.specs.declared.outcome.Verdict.{Verdict}
 use Rattle.pt_types.specs.declared.outcome.Verdict.TheVariants.{Reply, Stands}
 use Rattle.pt_rules.specs.Tables.{first_that_applies}
 use Rattle.pt_rules.specs.declared.mutex.LockRule.{LockRule}
-use Rattle.pt_rules.specs.declared.mutex.LockRule.TheVariants.{Lost, Free, Relocked, TooOften}
-use Rattle.pt_rules.specs.declared.mutex.LockRule.TheVariants.{Tried, Deadlocks, BadTime}
+use Rattle.pt_rules.specs.declared.mutex.LockRule.TheVariants.{Unrecoverable, Free, Relocked}
+use Rattle.pt_rules.specs.declared.mutex.LockRule.TheVariants.{TooOften, Tried, Deadlocks, BadTime}
 use Rattle.pt_rules.specs.declared.mutex.LockRule.TheVariants.{Relocks, Waits}
 use Rattle.pt_rules.specs.declared.mutex.UnlockRule.{UnlockRule}
 use Rattle.pt_rules.specs.declared.mutex.UnlockRule.TheVariants as unlock
@@ -28,13 +29,13 @@ use Rattle.pt_rules.specs.declared.mutex.ConsistentRule.TheVariants as consisten
 -- [XSH pthread_mutex_lock, pthread_mutex_timedlock]
 abbrev pub lock_lines : MutexView → (caller : ℕ) → How → List (Bool × LockRule)
 lock_lines m c how =
-    (is_lost m.consistency, Lost)
+    (is_not_recoverable m.consistency, Unrecoverable)
     ∷ (is_none m.owner, Free)
-    ∷ (owns m c && (is_recursive m.kind && nat_lt m.count most_locks), Relocked)
+    ∷ (owns m c && (is_recursive m.kind && nat_lt m.count max_locks), Relocked)
     ∷ (owns m c && is_recursive m.kind, TooOften)
     ∷ (is_try how, Tried)
     ∷ (owns m c && is_errorcheck m.kind, Deadlocks)
-    ∷ (has_bad_deadline (deadline_of how), BadTime)
+    ∷ (has_invalid_deadline (deadline_of how), BadTime)
     ∷ (owns m c, Relocks)
     ∷ []
 
@@ -43,22 +44,22 @@ abbrev pub lock_rule : MutexView → (caller : ℕ) → How → LockRule
 lock_rule m c how = first_that_applies (lock_lines m c how) Waits
 
 -- what that line says becomes of the call
-abbrev pub said_by_lock_rule : LockRule → Verdict
-said_by_lock_rule Lost = Stands
-said_by_lock_rule Free = Stands
-said_by_lock_rule Relocked = Reply Done
-said_by_lock_rule TooOften = Reply Eagain
-said_by_lock_rule Tried = Reply Ebusy
-said_by_lock_rule Deadlocks = Reply Edeadlk
-said_by_lock_rule BadTime = Reply Einval
-said_by_lock_rule Relocks = Stands
-said_by_lock_rule Waits = Stands
+abbrev pub outcome_by_lock_rule : LockRule → Verdict
+outcome_by_lock_rule Unrecoverable = Stands
+outcome_by_lock_rule Free = Stands
+outcome_by_lock_rule Relocked = Reply Done
+outcome_by_lock_rule TooOften = Reply Eagain
+outcome_by_lock_rule Tried = Reply Ebusy
+outcome_by_lock_rule Deadlocks = Reply Edeadlk
+outcome_by_lock_rule BadTime = Reply Einval
+outcome_by_lock_rule Relocks = Stands
+outcome_by_lock_rule Waits = Stands
 
 -- Lock rules: the verdict of a call for a mutex is what the first line that applies says.
 abbrev pub LockRules : Type 0
 LockRules =
     (m : MutexView) (c : ℕ) (how : How)
-    → lock_verdict m c how ≡ said_by_lock_rule (lock_rule m c how)
+    → lock_verdict m c how ≡ outcome_by_lock_rule (lock_rule m c how)
 
 -- whether a kind is NORMAL
 abbrev pub is_normal : MutexKind → Bool
@@ -84,17 +85,17 @@ abbrev pub unlock_rule : MutexView → (caller : ℕ) → UnlockRule
 unlock_rule m c = first_that_applies (unlock_lines m c) unlock.GivesBack
 
 -- what that line says becomes of the call
-abbrev pub said_by_unlock_rule : UnlockRule → Verdict
-said_by_unlock_rule unlock.Undefined = Reply Eperm
-said_by_unlock_rule unlock.NotOwner = Reply Eperm
-said_by_unlock_rule unlock.Counts = Reply Done
-said_by_unlock_rule unlock.Loses = Reply Done
-said_by_unlock_rule unlock.GivesBack = Reply Done
+abbrev pub outcome_by_unlock_rule : UnlockRule → Verdict
+outcome_by_unlock_rule unlock.Undefined = Reply Eperm
+outcome_by_unlock_rule unlock.NotOwner = Reply Eperm
+outcome_by_unlock_rule unlock.Counts = Reply Done
+outcome_by_unlock_rule unlock.Loses = Reply Done
+outcome_by_unlock_rule unlock.GivesBack = Reply Done
 
 -- Unlock rules: the verdict of `unlock` is what the first line that applies says.
 abbrev pub UnlockRules : Type 0
 UnlockRules =
-    (m : MutexView) (c : ℕ) → unlock_verdict m c ≡ said_by_unlock_rule (unlock_rule m c)
+    (m : MutexView) (c : ℕ) → unlock_verdict m c ≡ outcome_by_unlock_rule (unlock_rule m c)
 
 -- the table of `consistent`, without its last line  [XSH pthread_mutex_consistent]
 abbrev pub consistent_lines : MutexView → (caller : ℕ) → List (Bool × ConsistentRule)
@@ -109,14 +110,14 @@ abbrev pub consistent_rule : MutexView → (caller : ℕ) → ConsistentRule
 consistent_rule m c = first_that_applies (consistent_lines m c) consistent.Restores
 
 -- what that line says becomes of the call
-abbrev pub said_by_consistent_rule : ConsistentRule → Verdict
-said_by_consistent_rule consistent.NotRobust = Reply Einval
-said_by_consistent_rule consistent.NotInconsistent = Reply Einval
-said_by_consistent_rule consistent.NotOwner = Reply Eperm
-said_by_consistent_rule consistent.Restores = Reply Done
+abbrev pub outcome_by_consistent_rule : ConsistentRule → Verdict
+outcome_by_consistent_rule consistent.NotRobust = Reply Einval
+outcome_by_consistent_rule consistent.NotInconsistent = Reply Einval
+outcome_by_consistent_rule consistent.NotOwner = Reply Eperm
+outcome_by_consistent_rule consistent.Restores = Reply Done
 
 -- Consistent rules: the verdict of `consistent` is what the first line that applies says.
 abbrev pub ConsistentRules : Type 0
 ConsistentRules =
     (m : MutexView) (c : ℕ)
-    → consistent_verdict m c ≡ said_by_consistent_rule (consistent_rule m c)
+    → consistent_verdict m c ≡ outcome_by_consistent_rule (consistent_rule m c)

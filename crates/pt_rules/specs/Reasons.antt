@@ -26,7 +26,8 @@ use Rattle.pt_rules.specs.declared.call.CallRule.TheVariants as call
 
 -- the words and the source of a rule of the table `Lock`
 abbrev pub lock_reason : (page : List ℕ) → LockRule → List ℕ × List ℕ
-lock_reason page lock.Lost = (codes "the mutex is not recoverable", codes "XSH mutex_consistent")
+lock_reason page lock.Unrecoverable =
+    (codes "the mutex is not recoverable", codes "XSH mutex_consistent")
 lock_reason page lock.Free = (codes "the mutex has no owner", page)
 lock_reason page lock.Relocked = (codes "a RECURSIVE mutex: one lock more", page)
 lock_reason page lock.TooOften = (codes "255 locks already, the most", page)
@@ -59,7 +60,7 @@ init_reason page init.NoCount = (codes "a barrier's count is 1 to 1,024", page)
 init_reason page init.BadCount = (codes "a barrier's count is 1 to 1,024", codes "profile")
 init_reason page init.NameInUse = (codes "the name is in use", codes "profile")
 init_reason page init.TooMany = (codes "4,096 objects exist", page)
-init_reason page init.Makes = (codes "it is made", page)
+init_reason page init.Inits = (codes "it is made", page)
 
 -- the words and the source of a rule of the table `Destroy`
 abbrev pub destroy_reason : (page : List ℕ) → DestroyRule → List ℕ × List ℕ
@@ -121,4 +122,4 @@ rule_reason page (call.Write rule) = write_reason page rule
 rule_reason page (call.Rwunlock rule) = rwunlock_reason page rule
 rule_reason page (call.Wait rule) = wait_reason page rule
 rule_reason page (call.Wake rule) = wake_reason page rule
-rule_reason page call.Arrives = (codes "waits at the barrier", page)
+rule_reason page call.BarrierWaits = (codes "waits at the barrier", page)

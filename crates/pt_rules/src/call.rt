@@ -1,11 +1,11 @@
 ghost use Rattle.std.specs.Prelude.{◌≡◌};
-ghost use Rattle.pt_types.specs.Shown.{shown_operation};
-ghost use Rattle.pt_legal.specs.Cores.{past, shown};
-ghost use Rattle.pt_rules.specs.CallRules.{acquire_rule as acquire_line, call_rule as call_line};
-ghost use Rattle.pt_rules.specs.CallRules.{await_rule as await_line, missing_rule};
-ghost use Rattle.pt_rules.specs.CallRules.{operation_rule as operation_line};
-ghost use Rattle.pt_rules.specs.CallRules.{wake_rule_on as wake_line_on};
-ghost use Rattle.pt_types.specs.Operations.{Arrives, Awaits, Ends, Makes, Restores, Rwunlocks};
+ghost use Rattle.pt_types.specs.OperationViews.{operation_view};
+ghost use Rattle.pt_legal.specs.Cores.{history_of, core_state};
+ghost use Rattle.pt_rules.specs.CallRules.{acquire_rule, call_rule};
+ghost use Rattle.pt_rules.specs.CallRules.{await_rule, missing_rule};
+ghost use Rattle.pt_rules.specs.CallRules.{operation_rule};
+ghost use Rattle.pt_rules.specs.CallRules.{wake_rule_on};
+ghost use Rattle.pt_types.specs.Operations.{BarrierWaits, CondWaits, Ends, Inits, Restores, Rwunlocks};
 ghost use Rattle.pt_types.specs.Operations.{Unlocks};
 
 use crate::cond::{WaitRule, WakeRule, wait_rule, wake_rule};
@@ -35,12 +35,12 @@ pub enum CallRule {
     Wait(WaitRule),
     Wake(WakeRule),
     /// A call waits at a barrier.
-    Arrives,
+    BarrierWaits,
 }
 
 // Returns the rule for a name that means no object of the class that the call needs.
 fn missing<C: ReadableHistory>(core: &C, n: &Name) -> CallRule
-    ensures { result ≡ missing_rule (past (shown (C.seen core.now))) n.now }
+    ensures { result ≡ missing_rule (history_of (core_state (C.seen core.now))) n.now }
 {
     if core.is_named(n) {
         CallRule::OtherClass
@@ -51,7 +51,8 @@ fn missing<C: ReadableHistory>(core: &C, n: &Name) -> CallRule
 
 fn read_rule_on<C: ReadableHistory>(core: &C, c: ClientId, n: &Name, how: &How) -> CallRule
     ensures { result
-        ≡ acquire_line (past (shown (C.seen core.now))) c n.now LockKind.ReadLock how.now }
+        ≡ acquire_rule (history_of (core_state
+        (C.seen core.now))) c n.now LockKind.ReadLock how.now }
 {
     let Some(blocked) = core.is_blocked(n, c) else {
         return missing(core, n);
@@ -69,7 +70,8 @@ fn acquire_rule<C: ReadableHistory>(
     lock_kind: LockKind,
     how: &How,
 ) -> CallRule
-    ensures { result ≡ acquire_line (past (shown (C.seen core.now))) c n.now lock_kind how.now }
+    ensures { result ≡ acquire_rule (history_of (core_state
+        (C.seen core.now))) c n.now lock_kind how.now }
 {
     match lock_kind {
         LockKind::MutexLock => match core.mutex(n) {
@@ -92,7 +94,7 @@ fn await_rule<C: ReadableHistory>(
     due: Option<Deadline>,
     bound: Option<ObjectId>,
 ) -> CallRule
-    ensures { result ≡ await_line (past (shown (C.seen core.now))) c k.now due bound }
+    ensures { result ≡ await_rule (history_of (core_state (C.seen core.now))) c k.now due bound }
 {
     let Some(number) = core.find(k, ObjectClass::Mutex) else {
         return missing(core, k);
@@ -104,7 +106,8 @@ fn await_rule<C: ReadableHistory>(
 }
 
 fn unlock_rule_on<C: ReadableHistory>(core: &C, c: ClientId, n: &Name) -> CallRule
-    ensures { result ≡ operation_line (past (shown (C.seen core.now))) c (Unlocks n.now) }
+    ensures { result ≡ operation_rule (history_of (core_state (C.seen core.now))) c
+        (Unlocks n.now) }
 {
     match core.mutex(n) {
         Some(m) => CallRule::Unlock(unlock_rule(&m, c)),
@@ -113,7 +116,8 @@ fn unlock_rule_on<C: ReadableHistory>(core: &C, c: ClientId, n: &Name) -> CallRu
 }
 
 fn consistent_rule_on<C: ReadableHistory>(core: &C, c: ClientId, n: &Name) -> CallRule
-    ensures { result ≡ operation_line (past (shown (C.seen core.now))) c (Restores n.now) }
+    ensures { result ≡ operation_rule (history_of (core_state (C.seen core.now))) c
+        (Restores n.now) }
 {
     match core.mutex(n) {
         Some(m) => CallRule::Consistent(consistent_rule(&m, c)),
@@ -122,7 +126,8 @@ fn consistent_rule_on<C: ReadableHistory>(core: &C, c: ClientId, n: &Name) -> Ca
 }
 
 fn rwunlock_rule_on<C: ReadableHistory>(core: &C, c: ClientId, n: &Name) -> CallRule
-    ensures { result ≡ operation_line (past (shown (C.seen core.now))) c (Rwunlocks n.now) }
+    ensures { result ≡ operation_rule (history_of (core_state (C.seen core.now))) c
+        (Rwunlocks n.now) }
 {
     match core.rwlock(n, c) {
         Some(r) => CallRule::Rwunlock(rwunlock_rule(&r)),
@@ -132,7 +137,7 @@ fn rwunlock_rule_on<C: ReadableHistory>(core: &C, c: ClientId, n: &Name) -> Call
 
 // Returns the rule for a `broadcast`, or for a `signal` if `all` is false.
 fn wake_rule_on<C: ReadableHistory>(core: &C, n: &Name, all: bool) -> CallRule
-    ensures { result ≡ wake_line_on (past (shown (C.seen core.now))) n.now all }
+    ensures { result ≡ wake_rule_on (history_of (core_state (C.seen core.now))) n.now all }
 {
     match core.bound(n) {
         Some(bound) => CallRule::Wake(wake_rule(bound, all)),
@@ -146,7 +151,8 @@ fn destroy_rule_on<C: ReadableHistory>(
     n: &Name,
     class: ObjectClass,
 ) -> CallRule
-    ensures { result ≡ operation_line (past (shown (C.seen core.now))) c (Ends n.now class) }
+    ensures { result ≡ operation_rule (history_of (core_state (C.seen core.now))) c
+        (Ends n.now class) }
 {
     match core.is_busy(n, class) {
         Some(busy) => CallRule::Destroy(destroy_rule(busy)),
@@ -155,7 +161,8 @@ fn destroy_rule_on<C: ReadableHistory>(
 }
 
 fn init_rule_on<C: ReadableHistory>(core: &C, c: ClientId, n: &Name, kind: ObjectKind) -> CallRule
-    ensures { result ≡ operation_line (past (shown (C.seen core.now))) c (Makes n.now kind) }
+    ensures { result ≡ operation_rule (history_of (core_state (C.seen core.now))) c
+        (Inits n.now kind) }
 {
     CallRule::Init(init_rule(&kind, core.is_named(n), core.objects()))
 }
@@ -167,7 +174,8 @@ fn wait_rule_on<C: ReadableHistory>(
     k: &Name,
     due: Option<Deadline>,
 ) -> CallRule
-    ensures { result ≡ operation_line (past (shown (C.seen core.now))) c (Awaits n.now k.now due) }
+    ensures { result ≡ operation_rule (history_of (core_state (C.seen core.now))) c
+        (CondWaits n.now k.now due) }
 {
     match core.bound(n) {
         Some(bound) => await_rule(core, c, k, due, bound),
@@ -176,36 +184,37 @@ fn wait_rule_on<C: ReadableHistory>(
 }
 
 fn arrive_rule_on<C: ReadableHistory>(core: &C, c: ClientId, n: &Name) -> CallRule
-    ensures { result ≡ operation_line (past (shown (C.seen core.now))) c (Arrives n.now) }
+    ensures { result ≡ operation_rule (history_of (core_state (C.seen core.now))) c
+        (BarrierWaits n.now) }
 {
     match core.find(n, ObjectClass::Barrier) {
-        Some(_) => CallRule::Arrives,
+        Some(_) => CallRule::BarrierWaits,
         None => missing(core, n),
     }
 }
 
 fn operation_rule<C: ReadableHistory>(core: &C, c: ClientId, operation: &Operation<'_>) -> CallRule
-    ensures { result ≡ operation_line (past (shown (C.seen core.now))) c
-        (shown_operation operation.now) }
+    ensures { result ≡ operation_rule (history_of (core_state (C.seen core.now))) c
+        (operation_view operation.now) }
 {
     match operation {
-        Operation::Makes(n, kind) => init_rule_on(core, c, n, *kind),
+        Operation::Inits(n, kind) => init_rule_on(core, c, n, *kind),
         Operation::Ends(n, class) => destroy_rule_on(core, c, n, *class),
         Operation::Acquires(n, lock_kind, how) => acquire_rule(core, c, n, *lock_kind, how),
         Operation::Unlocks(n) => unlock_rule_on(core, c, n),
         Operation::Restores(n) => consistent_rule_on(core, c, n),
         Operation::Rwunlocks(n) => rwunlock_rule_on(core, c, n),
-        Operation::Awaits(n, k, due) => wait_rule_on(core, c, n, k, *due),
+        Operation::CondWaits(n, k, due) => wait_rule_on(core, c, n, k, *due),
         Operation::Signals(n) => wake_rule_on(core, n, false),
         Operation::Broadcasts(n) => wake_rule_on(core, n, true),
-        Operation::Arrives(n) => arrive_rule_on(core, c, n),
+        Operation::BarrierWaits(n) => arrive_rule_on(core, c, n),
     }
 }
 
 /// Returns the line of the verdict tables that applies to a client's call, before it is made.
 /// [XSH, the call's page]
 pub fn call_rule<C: ReadableHistory>(core: &C, c: ClientId, call: &Call) -> CallRule
-    ensures { result ≡ call_line (past (shown (C.seen core.now))) c call.now }
+    ensures { result ≡ call_rule (history_of (core_state (C.seen core.now))) c call.now }
 {
     operation_rule(core, c, &operation_of(call))
 }

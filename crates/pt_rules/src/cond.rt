@@ -1,6 +1,6 @@
 ghost use Rattle.std.specs.Prelude.{◌≡◌};
-ghost use Rattle.pt_rules.specs.CondRules.{is_left_open, wait_rule as wait_line};
-ghost use Rattle.pt_rules.specs.CondRules.{wake_rule as wake_line};
+ghost use Rattle.pt_rules.specs.CondRules.{stays_open, wait_rule};
+ghost use Rattle.pt_rules.specs.CondRules.{wake_rule};
 
 use pt_types::views::MutexView;
 use pt_types::{ClientId, Consistency, Deadline, MutexKind, ObjectId};
@@ -26,7 +26,7 @@ pub enum WaitRule {
 
 // Returns whether the page leaves open what a wait by another client than the owner does.
 fn is_open_case(m: &MutexView) -> bool
-    ensures { result ≡ is_left_open m.now }
+    ensures { result ≡ stays_open m.now }
 {
     !matches!(m.kind, MutexKind::Errorcheck) && !m.robust
 }
@@ -40,7 +40,7 @@ pub fn wait_rule(
     c: ClientId,
     due: Option<Deadline>,
 ) -> WaitRule
-    ensures { result ≡ wait_line (record { bound = bound }) number m.now c due }
+    ensures { result ≡ wait_rule (record { bound = bound }) number m.now c due }
 {
     let owns = m.owner == Some(c);
     if due.is_some_and(Deadline::is_bad) {
@@ -73,7 +73,7 @@ pub enum WakeRule {
 /// Returns the line that applies to a `broadcast`, or to a `signal` if `all` is false, at a
 /// condition that is bound to a mutex if calls wait there.
 pub fn wake_rule(bound: Option<ObjectId>, all: bool) -> WakeRule
-    ensures { result ≡ wake_line (record { bound = bound }) all }
+    ensures { result ≡ wake_rule (record { bound = bound }) all }
 {
     if bound.is_none() {
         WakeRule::Nobody

@@ -1,12 +1,12 @@
 //! Why an event's own entry is added, and why an event is refused.
 
 ghost use Rattle.std.specs.Prelude.{◌≡◌, is_some};
-ghost use Rattle.pt_legal.specs.Cores.{past, shown};
+ghost use Rattle.pt_legal.specs.Cores.{history_of, core_state};
 ghost use Rattle.pt_model.specs.Clients.{clock as clock_in};
-ghost use Rattle.pt_rules.specs.EventRules.{death_reason as death_text, is_shown};
-ghost use Rattle.pt_rules.specs.EventRules.{event_reason as event_text};
-ghost use Rattle.pt_rules.specs.EventRules.{moment_reason as moment_text};
-ghost use Rattle.pt_rules.specs.EventRules.{refusal_reason as refusal_text};
+ghost use Rattle.pt_rules.specs.EventRules.{death_reason, is_clock_at};
+ghost use Rattle.pt_rules.specs.EventRules.{event_reason};
+ghost use Rattle.pt_rules.specs.EventRules.{moment_reason};
+ghost use Rattle.pt_rules.specs.EventRules.{refusal_reason};
 
 use crate::call::call_rule;
 use crate::pages::page_of;
@@ -17,8 +17,8 @@ use pt_types::{Clock, Moment, Refusal};
 
 /// Returns why a line is refused.  [profile]
 pub fn refusal_reason(refusal: Refusal) -> Reason
-    ensures words { result.words.now ≡ (refusal_text refusal).0 }
-    ensures source { result.source.now ≡ (refusal_text refusal).1 }
+    ensures words { result.words.now ≡ (refusal_reason refusal).0 }
+    ensures source { result.source.now ≡ (refusal_reason refusal).1 }
 {
     let words: &'static [u8] = match refusal {
         Refusal::Syntax => b"the line is not in the grammar",
@@ -34,8 +34,8 @@ pub fn refusal_reason(refusal: Refusal) -> Reason
 }
 
 fn death_reason(has_open: bool) -> Reason
-    ensures words { result.words.now ≡ (death_text has_open).0 }
-    ensures source { result.source.now ≡ (death_text has_open).1 }
+    ensures words { result.words.now ≡ (death_reason has_open).0 }
+    ensures source { result.source.now ≡ (death_reason has_open).1 }
 {
     if has_open {
         Reason::new(b"its process ends, its call is open", b"profile")
@@ -46,7 +46,8 @@ fn death_reason(has_open: bool) -> Reason
 
 // Returns whether a clock shows this moment already, or a later one.
 fn shows<C: ReadableHistory>(core: &C, clock: Clock, moment: Moment) -> bool
-    ensures { result ≡ is_shown (clock_in (past (shown (C.seen core.now))) clock) moment }
+    ensures { result
+        ≡ is_clock_at (clock_in (history_of (core_state (C.seen core.now))) clock) moment }
 {
     match core.reading(clock) {
         Some(now) => moment.nanos() <= now.nanos(),
@@ -54,11 +55,11 @@ fn shows<C: ReadableHistory>(core: &C, clock: Clock, moment: Moment) -> bool
     }
 }
 
-fn moment_reason(shown: bool) -> Reason
-    ensures words { result.words.now ≡ (moment_text shown).0 }
-    ensures source { result.source.now ≡ (moment_text shown).1 }
+fn moment_reason(reached: bool) -> Reason
+    ensures words { result.words.now ≡ (moment_reason reached).0 }
+    ensures source { result.source.now ≡ (moment_reason reached).1 }
 {
-    if shown {
+    if reached {
         Reason::new(b"the clock shows as much already", b"profile")
     } else {
         Reason::new(b"the clock shows this from now on", b"profile")
@@ -68,9 +69,9 @@ fn moment_reason(shown: bool) -> Reason
 /// Returns why an event's own entry is added, from the core before the event.
 pub fn event_reason<C: ReadableHistory>(core: &C, event: &Event) -> Reason
     ensures words { result.words.now
-        ≡ (event_text (past (shown (C.seen core.now))) event.now).0 }
+        ≡ (event_reason (history_of (core_state (C.seen core.now))) event.now).0 }
     ensures source { result.source.now
-        ≡ (event_text (past (shown (C.seen core.now))) event.now).1 }
+        ≡ (event_reason (history_of (core_state (C.seen core.now))) event.now).1 }
 {
     match event {
         Event::Join(_) => Reason::new(b"a process starts", b"profile"),

@@ -1,11 +1,11 @@
 //! Why an entry must follow the entries before it.
 
 ghost use Rattle.std.specs.Prelude.{◌≡◌};
-ghost use Rattle.pt_rules.specs.EventRules.{expire_reason as expire_text};
-ghost use Rattle.pt_rules.specs.EventRules.{expire_rule as expire_line, page_if as page_meant};
-ghost use Rattle.pt_rules.specs.EventRules.{forced_reason as forced_text};
-ghost use Rattle.pt_rules.specs.EventRules.{grant_reason as grant_text, granted_on as source_of};
-ghost use Rattle.pt_rules.specs.EventRules.{grant_rule as grant_line, had_by_call};
+ghost use Rattle.pt_rules.specs.EventRules.{expire_reason};
+ghost use Rattle.pt_rules.specs.EventRules.{expire_rule, page_if};
+ghost use Rattle.pt_rules.specs.EventRules.{forced_reason};
+ghost use Rattle.pt_rules.specs.EventRules.{grant_reason, granted_on};
+ghost use Rattle.pt_rules.specs.EventRules.{grant_rule, grant_rule_of_call};
 
 use crate::pages::page_of;
 use crate::reasons::Reason;
@@ -17,14 +17,14 @@ use pt_types::{Call, Outcome};
 #[derive(Clone, Copy, PartialEq, Eq)]
 pub enum GrantRule {
     /// The mutex is not recoverable.
-    Lost,
+    Unrecoverable,
     /// The mutex is inconsistent.
     Inconsistent,
     /// The deadline of the wait passed.
     Late,
     Mutex,
     /// A wait has its mutex again.
-    Again,
+    Relock,
     Read,
     Write,
     /// A lock, of a call that a seal dropped the words of.
@@ -42,8 +42,8 @@ pub enum ExpireRule {
 }
 
 // Returns what a call that is answered 0 by a Grant has now.
-fn had_by(call: &Option<Call>) -> GrantRule
-    ensures { result ≡ had_by_call call.now }
+fn grant_rule_of(call: &Option<Call>) -> GrantRule
+    ensures { result ≡ grant_rule_of_call call.now }
 {
     let Some(call) = call else {
         return GrantRule::Served;
@@ -52,38 +52,38 @@ fn had_by(call: &Option<Call>) -> GrantRule
         Operation::Acquires(_, LockKind::MutexLock, _) => GrantRule::Mutex,
         Operation::Acquires(_, LockKind::ReadLock, _) => GrantRule::Read,
         Operation::Acquires(_, LockKind::WriteLock, _) => GrantRule::Write,
-        Operation::Awaits(..) => GrantRule::Again,
+        Operation::CondWaits(..) => GrantRule::Relock,
         _ => GrantRule::Served,
     }
 }
 
 /// Returns what a Grant with this outcome gives to this call. A seal drops the words of a call.
 pub fn grant_rule(outcome: Outcome, call: &Option<Call>) -> GrantRule
-    ensures { result ≡ grant_line outcome call.now }
+    ensures { result ≡ grant_rule outcome call.now }
 {
     match outcome {
-        Outcome::Enotrecoverable => GrantRule::Lost,
+        Outcome::Enotrecoverable => GrantRule::Unrecoverable,
         Outcome::Eownerdead => GrantRule::Inconsistent,
         Outcome::Etimedout => GrantRule::Late,
-        _ => had_by(call),
+        _ => grant_rule_of(call),
     }
 }
 
 /// Returns what becomes of this call, whose deadline is due. A seal drops the words of a call.
 pub fn expire_rule(call: &Option<Call>) -> ExpireRule
-    ensures { result ≡ expire_line call.now }
+    ensures { result ≡ expire_rule call.now }
 {
     let Some(call) = call else {
         return ExpireRule::Passes;
     };
     match operation_of(call) {
-        Operation::Awaits(..) => ExpireRule::Moves,
+        Operation::CondWaits(..) => ExpireRule::Moves,
         _ => ExpireRule::Ends,
     }
 }
 
 fn page_if(call: &Option<Call>) -> &'static [u8]
-    ensures { result.now ≡ page_meant call.now }
+    ensures { result.now ≡ page_if call.now }
 {
     match call {
         Some(call) => page_of(call),
@@ -93,17 +93,17 @@ fn page_if(call: &Option<Call>) -> &'static [u8]
 
 // Returns the source of a Grant: the page of its call if that comes with it, else the page given.
 fn granted_on(page: &'static [u8], at_once: bool, later: &'static [u8]) -> &'static [u8]
-    ensures { result.now ≡ source_of page.now at_once later.now }
+    ensures { result.now ≡ granted_on page.now at_once later.now }
 {
     if at_once { page } else { later }
 }
 
 fn grant_reason(rule: GrantRule, page: &'static [u8], at_once: bool) -> Reason
-    ensures words { result.words.now ≡ (grant_text page.now at_once rule).0 }
-    ensures source { result.source.now ≡ (grant_text page.now at_once rule).1 }
+    ensures words { result.words.now ≡ (grant_reason page.now at_once rule).0 }
+    ensures source { result.source.now ≡ (grant_reason page.now at_once rule).1 }
 {
     let (words, source): (&'static [u8], &'static [u8]) = match rule {
-        GrantRule::Lost => (
+        GrantRule::Unrecoverable => (
             b"the mutex is not recoverable",
             granted_on(b"XSH mutex_consistent", at_once, b"profile"),
         ),
@@ -116,7 +116,7 @@ fn grant_reason(rule: GrantRule, page: &'static [u8], at_once: bool) -> Reason
             b"has the mutex",
             granted_on(page, at_once, b"XSH mutex_unlock"),
         ),
-        GrantRule::Again => (b"has the mutex again", b"XSH mutex_unlock"),
+        GrantRule::Relock => (b"has the mutex again", b"XSH mutex_unlock"),
         GrantRule::Read => (
             b"has a read lock",
             granted_on(page, at_once, b"XSH rwlock_unlock"),
@@ -131,8 +131,8 @@ fn grant_reason(rule: GrantRule, page: &'static [u8], at_once: bool) -> Reason
 }
 
 fn expire_reason(rule: ExpireRule, page: &'static [u8]) -> Reason
-    ensures words { result.words.now ≡ (expire_text page.now rule).0 }
-    ensures source { result.source.now ≡ (expire_text page.now rule).1 }
+    ensures words { result.words.now ≡ (expire_reason page.now rule).0 }
+    ensures source { result.source.now ≡ (expire_reason page.now rule).1 }
 {
     match rule {
         ExpireRule::Moves => {
@@ -149,8 +149,8 @@ fn expire_reason(rule: ExpireRule, page: &'static [u8]) -> Reason
 /// Returns why a forced entry must follow. A Grant or an Expire is of this call, which comes with
 /// it or waited, or of `None` if a seal dropped its words.
 pub fn forced_reason(entry: &Entry, call: &Option<Call>, at_once: bool) -> Reason
-    ensures words { result.words.now ≡ (forced_text entry.now call.now at_once).0 }
-    ensures source { result.source.now ≡ (forced_text entry.now call.now at_once).1 }
+    ensures words { result.words.now ≡ (forced_reason entry.now call.now at_once).0 }
+    ensures source { result.source.now ≡ (forced_reason entry.now call.now at_once).1 }
 {
     match entry {
         Entry::Grant(_, x) => grant_reason(grant_rule(*x, call), page_if(call), at_once),

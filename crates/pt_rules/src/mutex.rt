@@ -1,15 +1,15 @@
 ghost use Rattle.std.specs.Prelude.{◌≡◌};
-ghost use Rattle.pt_rules.specs.MutexRules.{consistent_rule as consistent_line, is_open};
-ghost use Rattle.pt_rules.specs.MutexRules.{lock_rule as lock_line, unlock_rule as unlock_line};
+ghost use Rattle.pt_rules.specs.MutexRules.{consistent_rule, is_open};
+ghost use Rattle.pt_rules.specs.MutexRules.{lock_rule, unlock_rule};
 
 use pt_types::views::MutexView;
-use pt_types::{ClientId, Consistency, How, MOST_LOCKS, MutexKind};
+use pt_types::{ClientId, Consistency, How, MAX_LOCKS, MutexKind};
 
 /// The line of the table of lock calls that applies.  [XSH pthread_mutex_lock]
 #[derive(Clone, Copy, PartialEq, Eq)]
 pub enum LockRule {
     /// The mutex is not recoverable.
-    Lost,
+    Unrecoverable,
     /// The mutex has no owner.
     Free,
     /// The caller owns it, it is RECURSIVE, and the count rises.
@@ -29,14 +29,14 @@ pub enum LockRule {
 
 /// Returns the line that applies to a caller's lock call.
 pub fn lock_rule(m: &MutexView, c: ClientId, how: &How) -> LockRule
-    ensures { result ≡ lock_line m.now c how.now }
+    ensures { result ≡ lock_rule m.now c how.now }
 {
     let owns = m.owner == Some(c);
     if matches!(m.consistency, Consistency::NotRecoverable) {
-        LockRule::Lost
+        LockRule::Unrecoverable
     } else if m.owner.is_none() {
         LockRule::Free
-    } else if owns && matches!(m.kind, MutexKind::Recursive) && m.count < MOST_LOCKS as u64 {
+    } else if owns && matches!(m.kind, MutexKind::Recursive) && m.count < MAX_LOCKS as u64 {
         LockRule::Relocked
     } else if owns && matches!(m.kind, MutexKind::Recursive) {
         LockRule::TooOften
@@ -69,7 +69,7 @@ pub enum UnlockRule {
 
 /// Returns the line that applies to a caller's `unlock`.
 pub fn unlock_rule(m: &MutexView, c: ClientId) -> UnlockRule
-    ensures { result ≡ unlock_line m.now c }
+    ensures { result ≡ unlock_rule m.now c }
 {
     let owns = m.owner == Some(c);
     if !owns && is_open_case(m) {
@@ -104,7 +104,7 @@ pub enum ConsistentRule {
 
 /// Returns the line that applies to a caller's `consistent`.
 pub fn consistent_rule(m: &MutexView, c: ClientId) -> ConsistentRule
-    ensures { result ≡ consistent_line m.now c }
+    ensures { result ≡ consistent_rule m.now c }
 {
     if !m.robust {
         ConsistentRule::NotRobust

@@ -1,9 +1,9 @@
 ghost use Rattle.std.specs.Prelude.{◌≡◌};
-ghost use Rattle.pt_types.specs.ObjectTable.{is_bad_kind};
-ghost use Rattle.pt_rules.specs.ObjectRules.{destroy_rule as destroy_line, init_rule as init_line};
+ghost use Rattle.pt_types.specs.ObjectTable.{is_invalid_kind};
+ghost use Rattle.pt_rules.specs.ObjectRules.{destroy_rule, init_rule};
 ghost use Rattle.pt_rules.specs.ObjectRules.{is_empty_barrier};
 
-use pt_types::{MOST_AT_BARRIER, MOST_OBJECTS, ObjectKind};
+use pt_types::{MAX_BARRIER_COUNT, MAX_OBJECTS, ObjectKind};
 
 /// The line of the table of the init calls that applies.  [XSH pthread_mutex_init]
 #[derive(Clone, Copy, PartialEq, Eq)]
@@ -16,7 +16,7 @@ pub enum InitRule {
     NameInUse,
     /// No more objects can be made.
     TooMany,
-    Makes,
+    Inits,
 }
 
 // Returns whether a kind is that of a barrier whose count is 0.
@@ -31,17 +31,17 @@ fn has_no_count(kind: &ObjectKind) -> bool
 
 // Returns whether a kind is that of a barrier whose count is not from 1 to 1,024.
 fn is_bad_count(kind: &ObjectKind) -> bool
-    ensures { result ≡ is_bad_kind kind.now }
+    ensures { result ≡ is_invalid_kind kind.now }
 {
     match kind {
-        ObjectKind::Barrier(count) => *count == 0 || *count > MOST_AT_BARRIER as u64,
+        ObjectKind::Barrier(count) => *count == 0 || *count > MAX_BARRIER_COUNT as u64,
         _ => false,
     }
 }
 
 /// Returns the line that applies to making an object while this many exist.
 pub fn init_rule(kind: &ObjectKind, in_use: bool, objects: usize) -> InitRule
-    ensures { result ≡ init_line kind.now in_use objects }
+    ensures { result ≡ init_rule kind.now in_use objects }
 {
     if has_no_count(kind) {
         InitRule::NoCount
@@ -49,10 +49,10 @@ pub fn init_rule(kind: &ObjectKind, in_use: bool, objects: usize) -> InitRule
         InitRule::BadCount
     } else if in_use {
         InitRule::NameInUse
-    } else if objects >= MOST_OBJECTS {
+    } else if objects >= MAX_OBJECTS {
         InitRule::TooMany
     } else {
-        InitRule::Makes
+        InitRule::Inits
     }
 }
 
@@ -66,7 +66,7 @@ pub enum DestroyRule {
 
 /// Returns the line that applies to destroying an object.
 pub fn destroy_rule(busy: bool) -> DestroyRule
-    ensures { result ≡ destroy_line busy }
+    ensures { result ≡ destroy_rule busy }
 {
     if busy {
         DestroyRule::Busy

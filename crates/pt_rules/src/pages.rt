@@ -1,11 +1,11 @@
 ghost use Rattle.std.specs.Prelude.{◌≡◌};
-ghost use Rattle.pt_rules.specs.Pages.{page_of as page_meant};
+ghost use Rattle.pt_rules.specs.Pages.{page_of};
 
 use pt_types::Call;
 
 /// Returns the page of XSH that a call is on, without `pthread_`.
 pub fn page_of(call: &Call) -> &'static [u8]
-    ensures { result.now ≡ page_meant call.now }
+    ensures { result.now ≡ page_of call.now }
 {
     match call {
         Call::MutexInit(..) => b"XSH mutex_init",

@@ -1,13 +1,13 @@
 //! The words of each rule, and its source.
 
 ghost use Rattle.std.specs.Prelude.{◌≡◌};
-ghost use Rattle.pt_rules.specs.Reasons.{consistent_reason as consistent_text};
-ghost use Rattle.pt_rules.specs.Reasons.{destroy_reason as destroy_text, init_reason as init_text};
-ghost use Rattle.pt_rules.specs.Reasons.{lock_reason as lock_text, read_reason as read_text};
-ghost use Rattle.pt_rules.specs.Reasons.{rule_reason as rule_text};
-ghost use Rattle.pt_rules.specs.Reasons.{rwunlock_reason as rwunlock_text};
-ghost use Rattle.pt_rules.specs.Reasons.{unlock_reason as unlock_text, wait_reason as wait_text};
-ghost use Rattle.pt_rules.specs.Reasons.{wake_reason as wake_text, write_reason as write_text};
+ghost use Rattle.pt_rules.specs.Reasons.{consistent_reason};
+ghost use Rattle.pt_rules.specs.Reasons.{destroy_reason, init_reason};
+ghost use Rattle.pt_rules.specs.Reasons.{lock_reason, read_reason};
+ghost use Rattle.pt_rules.specs.Reasons.{rule_reason};
+ghost use Rattle.pt_rules.specs.Reasons.{rwunlock_reason};
+ghost use Rattle.pt_rules.specs.Reasons.{unlock_reason, wait_reason};
+ghost use Rattle.pt_rules.specs.Reasons.{wake_reason, write_reason};
 
 use crate::call::CallRule;
 use crate::cond::{WaitRule, WakeRule};
@@ -34,11 +34,13 @@ impl Reason {
 }
 
 fn lock_reason(rule: LockRule, page: &'static [u8]) -> Reason
-    ensures words { result.words.now ≡ (lock_text page.now rule).0 }
-    ensures source { result.source.now ≡ (lock_text page.now rule).1 }
+    ensures words { result.words.now ≡ (lock_reason page.now rule).0 }
+    ensures source { result.source.now ≡ (lock_reason page.now rule).1 }
 {
     match rule {
-        LockRule::Lost => Reason::new(b"the mutex is not recoverable", b"XSH mutex_consistent"),
+        LockRule::Unrecoverable => {
+            Reason::new(b"the mutex is not recoverable", b"XSH mutex_consistent")
+        }
         LockRule::Free => Reason::new(b"the mutex has no owner", page),
         LockRule::Relocked => Reason::new(b"a RECURSIVE mutex: one lock more", page),
         LockRule::TooOften => Reason::new(b"255 locks already, the most", page),
@@ -51,8 +53,8 @@ fn lock_reason(rule: LockRule, page: &'static [u8]) -> Reason
 }
 
 fn unlock_reason(rule: UnlockRule, page: &'static [u8]) -> Reason
-    ensures words { result.words.now ≡ (unlock_text page.now rule).0 }
-    ensures source { result.source.now ≡ (unlock_text page.now rule).1 }
+    ensures words { result.words.now ≡ (unlock_reason page.now rule).0 }
+    ensures source { result.source.now ≡ (unlock_reason page.now rule).1 }
 {
     match rule {
         UnlockRule::Undefined => Reason::new(b"the caller does not own the mutex", b"profile"),
@@ -69,8 +71,8 @@ fn unlock_reason(rule: UnlockRule, page: &'static [u8]) -> Reason
 }
 
 fn consistent_reason(rule: ConsistentRule, page: &'static [u8]) -> Reason
-    ensures words { result.words.now ≡ (consistent_text page.now rule).0 }
-    ensures source { result.source.now ≡ (consistent_text page.now rule).1 }
+    ensures words { result.words.now ≡ (consistent_reason page.now rule).0 }
+    ensures source { result.source.now ≡ (consistent_reason page.now rule).1 }
 {
     match rule {
         ConsistentRule::NotRobust => Reason::new(b"the mutex is not robust", page),
@@ -81,21 +83,21 @@ fn consistent_reason(rule: ConsistentRule, page: &'static [u8]) -> Reason
 }
 
 fn init_reason(rule: InitRule, page: &'static [u8]) -> Reason
-    ensures words { result.words.now ≡ (init_text page.now rule).0 }
-    ensures source { result.source.now ≡ (init_text page.now rule).1 }
+    ensures words { result.words.now ≡ (init_reason page.now rule).0 }
+    ensures source { result.source.now ≡ (init_reason page.now rule).1 }
 {
     match rule {
         InitRule::NoCount => Reason::new(b"a barrier's count is 1 to 1,024", page),
         InitRule::BadCount => Reason::new(b"a barrier's count is 1 to 1,024", b"profile"),
         InitRule::NameInUse => Reason::new(b"the name is in use", b"profile"),
         InitRule::TooMany => Reason::new(b"4,096 objects exist", page),
-        InitRule::Makes => Reason::new(b"it is made", page),
+        InitRule::Inits => Reason::new(b"it is made", page),
     }
 }
 
 fn destroy_reason(rule: DestroyRule, page: &'static [u8]) -> Reason
-    ensures words { result.words.now ≡ (destroy_text page.now rule).0 }
-    ensures source { result.source.now ≡ (destroy_text page.now rule).1 }
+    ensures words { result.words.now ≡ (destroy_reason page.now rule).0 }
+    ensures source { result.source.now ≡ (destroy_reason page.now rule).1 }
 {
     match rule {
         DestroyRule::Busy => Reason::new(b"it is in use", b"profile"),
@@ -104,8 +106,8 @@ fn destroy_reason(rule: DestroyRule, page: &'static [u8]) -> Reason
 }
 
 fn read_reason(rule: ReadRule, page: &'static [u8]) -> Reason
-    ensures words { result.words.now ≡ (read_text page.now rule).0 }
-    ensures source { result.source.now ≡ (read_text page.now rule).1 }
+    ensures words { result.words.now ≡ (read_reason page.now rule).0 }
+    ensures source { result.source.now ≡ (read_reason page.now rule).1 }
 {
     match rule {
         ReadRule::Writes => Reason::new(b"the caller holds the write lock", b"profile"),
@@ -120,8 +122,8 @@ fn read_reason(rule: ReadRule, page: &'static [u8]) -> Reason
 }
 
 fn write_reason(rule: WriteRule, page: &'static [u8]) -> Reason
-    ensures words { result.words.now ≡ (write_text page.now rule).0 }
-    ensures source { result.source.now ≡ (write_text page.now rule).1 }
+    ensures words { result.words.now ≡ (write_reason page.now rule).0 }
+    ensures source { result.source.now ≡ (write_reason page.now rule).1 }
 {
     match rule {
         WriteRule::Holds => Reason::new(b"the caller holds the lock itself", b"profile"),
@@ -133,8 +135,8 @@ fn write_reason(rule: WriteRule, page: &'static [u8]) -> Reason
 }
 
 fn rwunlock_reason(rule: RwunlockRule, page: &'static [u8]) -> Reason
-    ensures words { result.words.now ≡ (rwunlock_text page.now rule).0 }
-    ensures source { result.source.now ≡ (rwunlock_text page.now rule).1 }
+    ensures words { result.words.now ≡ (rwunlock_reason page.now rule).0 }
+    ensures source { result.source.now ≡ (rwunlock_reason page.now rule).1 }
 {
     match rule {
         RwunlockRule::NotHolder => Reason::new(b"the caller holds nothing there", b"profile"),
@@ -143,8 +145,8 @@ fn rwunlock_reason(rule: RwunlockRule, page: &'static [u8]) -> Reason
 }
 
 fn wait_reason(rule: WaitRule, page: &'static [u8]) -> Reason
-    ensures words { result.words.now ≡ (wait_text page.now rule).0 }
-    ensures source { result.source.now ≡ (wait_text page.now rule).1 }
+    ensures words { result.words.now ≡ (wait_reason page.now rule).0 }
+    ensures source { result.source.now ≡ (wait_reason page.now rule).1 }
 {
     match rule {
         WaitRule::BadTime => Reason::new(b"nanoseconds of 1,000,000,000 or more", page),
@@ -158,8 +160,8 @@ fn wait_reason(rule: WaitRule, page: &'static [u8]) -> Reason
 }
 
 fn wake_reason(rule: WakeRule, page: &'static [u8]) -> Reason
-    ensures words { result.words.now ≡ (wake_text page.now rule).0 }
-    ensures source { result.source.now ≡ (wake_text page.now rule).1 }
+    ensures words { result.words.now ≡ (wake_reason page.now rule).0 }
+    ensures source { result.source.now ≡ (wake_reason page.now rule).1 }
 {
     match rule {
         WakeRule::Nobody => Reason::new(b"nobody waits there", page),
@@ -170,8 +172,8 @@ fn wake_reason(rule: WakeRule, page: &'static [u8]) -> Reason
 
 /// Returns the words and the source of a rule, for a call on this page.
 pub fn rule_reason(rule: CallRule, page: &'static [u8]) -> Reason
-    ensures words { result.words.now ≡ (rule_text page.now rule).0 }
-    ensures source { result.source.now ≡ (rule_text page.now rule).1 }
+    ensures words { result.words.now ≡ (rule_reason page.now rule).0 }
+    ensures source { result.source.now ≡ (rule_reason page.now rule).1 }
 {
     match rule {
         CallRule::NoObject => Reason::new(b"no object has the name", b"profile"),
@@ -186,6 +188,6 @@ pub fn rule_reason(rule: CallRule, page: &'static [u8]) -> Reason
         CallRule::Rwunlock(rule) => rwunlock_reason(rule, page),
         CallRule::Wait(rule) => wait_reason(rule, page),
         CallRule::Wake(rule) => wake_reason(rule, page),
-        CallRule::Arrives => Reason::new(b"waits at the barrier", page),
+        CallRule::BarrierWaits => Reason::new(b"waits at the barrier", page),
     }
 }

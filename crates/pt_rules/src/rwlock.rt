@@ -1,9 +1,9 @@
 ghost use Rattle.std.specs.Prelude.{◌≡◌};
-ghost use Rattle.pt_rules.specs.RwlockRules.{read_rule as read_line, write_rule as write_line};
-ghost use Rattle.pt_rules.specs.RwlockRules.{rwunlock_rule as rwunlock_line};
+ghost use Rattle.pt_rules.specs.RwlockRules.{read_rule, write_rule};
+ghost use Rattle.pt_rules.specs.RwlockRules.{rwunlock_rule};
 
 use pt_types::views::RwlockView;
-use pt_types::{How, MOST_READS};
+use pt_types::{How, MAX_READ_LOCKS};
 
 /// The line of the table of the rdlock calls that applies.  [XSH pthread_rwlock_rdlock]
 #[derive(Clone, Copy, PartialEq, Eq)]
@@ -27,11 +27,11 @@ pub enum ReadRule {
 
 /// Returns the line that applies to a caller's call for a read lock.
 pub fn read_rule(r: &RwlockView, blocked: bool, how: &How) -> ReadRule
-    ensures { result ≡ read_line r.now blocked how.now }
+    ensures { result ≡ read_rule r.now blocked how.now }
 {
     if r.writes {
         ReadRule::Writes
-    } else if r.reads >= MOST_READS as u64 {
+    } else if r.reads >= MAX_READ_LOCKS as u64 {
         ReadRule::TooOften
     } else if r.reads > 0 && blocked {
         ReadRule::Passes
@@ -65,7 +65,7 @@ pub enum WriteRule {
 
 /// Returns the line that applies to a caller's call for a write lock.
 pub fn write_rule(r: &RwlockView, how: &How) -> WriteRule
-    ensures { result ≡ write_line r.now how.now }
+    ensures { result ≡ write_rule r.now how.now }
 {
     if r.writes || r.reads > 0 {
         WriteRule::Holds
@@ -91,7 +91,7 @@ pub enum RwunlockRule {
 
 /// Returns the line that applies to a caller's `rwunlock`.
 pub fn rwunlock_rule(r: &RwlockView) -> RwunlockRule
-    ensures { result ≡ rwunlock_line r.now }
+    ensures { result ≡ rwunlock_rule r.now }
 {
     if r.writes || r.reads > 0 {
         RwunlockRule::GivesBack

@@ -11,7 +11,7 @@ use Rattle.std.specs.declared.cmp.Ordering.TheVariants.{Less, Equal, Greater}
 use Rattle.std.specs.BTreeMap.{is_at, insert_entry}
 use Rattle.std.proofs.lemmas.Bool.{lt-ltb}
 use Rattle.std.proofs.lemmas.Bool.Decides.{eqb_tells}
-use Rattle.pt_rwlock.specs.RwlockState.{readers_in}
+use Rattle.pt_rwlock.specs.RwlockState.{reader_count}
 
 -- one for a row with read locks
 abbrev pub one_if_read : ℕ → ℕ
@@ -35,18 +35,18 @@ read-alike n other = elim (eqb_tells n 0) [
 
 -- the count after a row is changed
 pub readers-set : (c n m : ℕ) (rows : List (ℕ × ℕ)) → lookup (is_at (nat_cmp c)) rows ≡ Some n
-    → readers_in (set_value (is_at (nat_cmp c)) rows m) + one_if_read n
-    ≡ readers_in rows + one_if_read m
+    → reader_count (set_value (is_at (nat_cmp c)) rows m) + one_if_read n
+    ≡ reader_count rows + one_if_read m
 readers-set c n m [] at = cc
 readers-set c n m (e ∷ es) at = go (is_at (nat_cmp c) e.0) at (readers-set c n m es)
   where
     go : (b : Bool) → cond b (Some e.1) (lookup (is_at (nat_cmp c)) es) ≡ Some n
         → (lookup (is_at (nat_cmp c)) es ≡ Some n
-        → readers_in (set_value (is_at (nat_cmp c)) es m) + one_if_read n
-        ≡ readers_in es + one_if_read m)
-        → readers_in (cond b ((e.0, m) ∷ es) (e ∷ set_value (is_at (nat_cmp c)) es m))
+        → reader_count (set_value (is_at (nat_cmp c)) es m) + one_if_read n
+        ≡ reader_count es + one_if_read m)
+        → reader_count (cond b ((e.0, m) ∷ es) (e ∷ set_value (is_at (nat_cmp c)) es m))
         + one_if_read n
-        ≡ readers_in (e ∷ es) + one_if_read m
+        ≡ reader_count (e ∷ es) + one_if_read m
     go true at ih =
         let same : e.1 ≡ n = cc in
         let worth : one_if_read e.1 ≡ one_if_read n = ap one_if_read same in
@@ -55,54 +55,54 @@ readers-set c n m (e ∷ es) at = go (is_at (nat_cmp c) e.0) at (readers-set c n
 
 -- a new row has no read locks
 pub readers-new : (c : ℕ) (rows : List (ℕ × ℕ)) → lookup (is_at (nat_cmp c)) rows ≡ None
-    → readers_in (insert_entry nat_cmp rows c 0) ≡ readers_in rows
+    → reader_count (insert_entry nat_cmp rows c 0) ≡ reader_count rows
 readers-new c [] none = refl
 readers-new c (e ∷ es) none = go (nat_cmp c e.0) none (readers-new c es)
   where
     go : (o : Ordering)
         → cond (is_eq o) (Some e.1) (lookup (is_at (nat_cmp c)) es) ≡ None
         → (lookup (is_at (nat_cmp c)) es ≡ None
-        → readers_in (insert_entry nat_cmp es c 0) ≡ readers_in es)
-        → readers_in (match_ordering o ((c, 0) ∷ e ∷ es) ((e.0, 0) ∷ es)
+        → reader_count (insert_entry nat_cmp es c 0) ≡ reader_count es)
+        → reader_count (match_ordering o ((c, 0) ∷ e ∷ es) ((e.0, 0) ∷ es)
         (e ∷ insert_entry nat_cmp es c 0))
-        ≡ readers_in (e ∷ es)
+        ≡ reader_count (e ∷ es)
     go Less none ih = omega arith
     go Equal none ih = cc
     go Greater none ih = ap (λ k. one_if_read e.1 + k) (ih none)
 
 -- the count is above zero exactly if a row has read locks
 pub readers-some : (rows : List (ℕ × ℕ))
-    → nat_lt 0 (readers_in rows) ≡ list_any (λ n. nat_lt 0 n) (values_of rows)
+    → nat_lt 0 (reader_count rows) ≡ list_any (λ n. nat_lt 0 n) (values_of rows)
 readers-some [] = refl
 readers-some (e ∷ es) = go (nat_lt 0 e.1) (readers-some es)
   where
-    go : (b : Bool) → nat_lt 0 (readers_in es) ≡ list_any (λ n. nat_lt 0 n) (values_of es)
-        → nat_lt 0 (cond b 1 0 + readers_in es)
+    go : (b : Bool) → nat_lt 0 (reader_count es) ≡ list_any (λ n. nat_lt 0 n) (values_of es)
+        → nat_lt 0 (cond b 1 0 + reader_count es)
         ≡ (b || list_any (λ n. nat_lt 0 n) (values_of es))
-    go true ih = lt-ltb 0 (1 + readers_in es) (omega arith)
+    go true ih = lt-ltb 0 (1 + reader_count es) (omega arith)
     go false ih =
-        let none : 0 + readers_in es ≡ readers_in es = omega arith in
+        let none : 0 + reader_count es ≡ reader_count es = omega arith in
         ap (nat_lt 0) none ∙ ih
 
 -- the count is at most the number of rows
-pub readers-most : (rows : List (ℕ × ℕ)) → readers_in rows ≤ length rows
+pub readers-most : (rows : List (ℕ × ℕ)) → reader_count rows ≤ length rows
 readers-most [] = omega arith
 readers-most (e ∷ es) = go (nat_lt 0 e.1) (readers-most es)
   where
-    go : (b : Bool) → readers_in es ≤ length es
-        → cond b 1 0 + readers_in es ≤ suc (length es)
+    go : (b : Bool) → reader_count es ≤ length es
+        → cond b 1 0 + reader_count es ≤ suc (length es)
     go true ih = omega (arith, ih)
     go false ih = omega (arith, ih)
 
 -- the count after a row gets one more read lock
-pub readers-added : (c n count : ℕ) (old new : List (ℕ × ℕ)) → readers_in old ≡ count
+pub readers-added : (c n count : ℕ) (old new : List (ℕ × ℕ)) → reader_count old ≡ count
     → lookup (is_at (nat_cmp c)) old ≡ Some n
     → new ≡ set_value (is_at (nat_cmp c)) old (n + 1)
-    → (n ≡ 0 → readers_in new ≡ count + 1) × ((n ≡ 0 → ⊥) → readers_in new ≡ count)
+    → (n ≡ 0 → reader_count new ≡ count + 1) × ((n ≡ 0 → ⊥) → reader_count new ≡ count)
 readers-added c n count old new many at same =
     let sum = readers-set c n (n + 1) old at in
-    let seen : readers_in new ≡ readers_in (set_value (is_at (nat_cmp c)) old (n + 1)) =
-    ap readers_in same in
+    let seen : reader_count new ≡ reader_count (set_value (is_at (nat_cmp c)) old (n + 1)) =
+    ap reader_count same in
     let more : one_if_read (n + 1) ≡ 1 = read-one (n + 1) (omega arith) in (
       (λ none.
           let zero : one_if_read n ≡ 0 = ap one_if_read none in
@@ -113,15 +113,15 @@ readers-added c n count old new many at same =
     )
 
 -- the count after a row gets one less
-pub readers-taken : (c n count : ℕ) (old new : List (ℕ × ℕ)) → readers_in old ≡ count
+pub readers-taken : (c n count : ℕ) (old new : List (ℕ × ℕ)) → reader_count old ≡ count
     → lookup (is_at (nat_cmp c)) old ≡ Some n
     → new ≡ set_value (is_at (nat_cmp c)) old (n - 1)
-    → (n ≡ 1 → (1 ≤ count) × (readers_in new ≡ count - 1))
-    × ((n ≡ 1 → ⊥) → readers_in new ≡ count)
+    → (n ≡ 1 → (1 ≤ count) × (reader_count new ≡ count - 1))
+    × ((n ≡ 1 → ⊥) → reader_count new ≡ count)
 readers-taken c n count old new many at same =
     let sum = readers-set c n (n - 1) old at in
-    let seen : readers_in new ≡ readers_in (set_value (is_at (nat_cmp c)) old (n - 1)) =
-    ap readers_in same in (
+    let seen : reader_count new ≡ reader_count (set_value (is_at (nat_cmp c)) old (n - 1)) =
+    ap reader_count same in (
       (λ one.
           let last : n - 1 ≡ 0 = omega arith in
           let left : one_if_read (n - 1) ≡ 0 = ap one_if_read last in
@@ -139,6 +139,6 @@ none_of (Some n) e = cc
 -- the count stays the same whether a new row was added or refused
 pub readers-kept : {T E : Type 0} (r : Result T E) (c : ℕ) (old new : List (ℕ × ℕ))
     → lookup (is_at (nat_cmp c)) old ≡ None → OnOk r (new ≡ insert_entry nat_cmp old c 0)
-    → OnErr r (new ≡ old) → readers_in new ≡ readers_in old
-readers-kept (Ok x) c old new none ok err = ap readers_in ok ∙ readers-new c old none
-readers-kept (Err x) c old new none ok err = ap readers_in err
+    → OnErr r (new ≡ old) → reader_count new ≡ reader_count old
+readers-kept (Ok x) c old new none ok err = ap reader_count ok ∙ readers-new c old none
+readers-kept (Err x) c old new none ok err = ap reader_count err

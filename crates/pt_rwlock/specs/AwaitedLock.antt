@@ -2,8 +2,8 @@
 use Rattle.std.specs.Prelude.{ℕ, ◌≡◌, ◌<◌, ◌≤◌, length, Bool, ◌-◌, ◌==◌, ◌↔◌, IsTrue, List}
 use Rattle.std.specs.Prelude.{if◌then◌else◌, replicate, slice_index, slice_set}
 use Rattle.pt_lanes.specs.Counts.{AnyFrom}
-use Rattle.pt_types.specs.Limits.{most_priority}
-use Rattle.pt_rwlock.specs.RwlockState.{RwlockState, made}
+use Rattle.pt_types.specs.Limits.{max_priority}
+use Rattle.pt_rwlock.specs.RwlockState.{RwlockState, new_rwlock}
 
 -- the holders of the lock, and the number of writers that wait at each priority, that of priority p
 -- at index p - 1  [XSH pthread_rwlock_rdlock]
@@ -14,7 +14,7 @@ pub record AwaitedLock : Type 0 where
 -- a lock as it is made: nobody holds it, and no priority has a waiting writer
 -- [XSH pthread_rwlock_init]
 abbrev pub awaited_by_none : AwaitedLock
-awaited_by_none = record { lock = made; waiting = replicate most_priority 0 }
+awaited_by_none = record { lock = new_rwlock; waiting = replicate max_priority 0 }
 
 -- the lock with these holders, and with as many waiting writers as before
 abbrev pub with_lock : AwaitedLock → RwlockState → AwaitedLock
@@ -32,8 +32,8 @@ writers_at r p = slice_index r.waiting (p - 1)
 -- a writer of this priority or a higher one waits exactly if one of these priorities has a count
 -- above 0  [XSH pthread_rwlock_rdlock]
 abbrev pub BlockedByCounts : Type 0
-BlockedByCounts = (r : AwaitedLock) (p : ℕ) → length r.waiting ≡ most_priority → 1 ≤ p
-    → AnyFrom r.waiting (p - 1) ↔ ((q : ℕ) × (p ≤ q) × (q ≤ most_priority) × (0 < writers_at r q))
+BlockedByCounts = (r : AwaitedLock) (p : ℕ) → length r.waiting ≡ max_priority → 1 ≤ p
+    → AnyFrom r.waiting (p - 1) ↔ ((q : ℕ) × (p ≤ q) × (q ≤ max_priority) × (0 < writers_at r q))
 
 -- the lock with this number of waiting writers of this priority, and of each other one as many as
 -- before
@@ -43,5 +43,5 @@ with_writers r p n = record r { waiting = slice_set r.waiting (p - 1) n }
 -- this priority has the new count of waiting writers, and each other priority has its old count
 abbrev pub ChangesCount : (old new : AwaitedLock) (priority count : ℕ) → Type 0
 ChangesCount old new p n =
-    (other : ℕ) → 1 ≤ other → other ≤ most_priority
+    (other : ℕ) → 1 ≤ other → other ≤ max_priority
     → writers_at new other ≡ (if p == other then n else writers_at old other)

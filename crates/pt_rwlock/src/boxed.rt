@@ -49,7 +49,7 @@ impl<A: Allocator + Copy> BoxedRows<A> {
     /// Returns the number of rows.
     pub(crate) fn len(&self) -> usize
         ensures len { result ≡ length self.now }
-        ensures small { result < 2 ^ 63 }
+        ensures within { result < 2 ^ 63 }
         ensures ordered { IsInOrder self.now }
     {
         match &self.boxed {
@@ -71,7 +71,7 @@ impl<A: Allocator + Copy> BoxedRows<A> {
     /// Returns whether a client has a row. Its place is stored as the client's hint.
     pub(crate) fn has(&mut self, client: u64) -> bool
         ensures found { result ≡ is_some (lookup (is_at (nat_cmp client)) self.old) }
-        ensures same { self.new ≡ self.old }
+        ensures unchanged { self.new ≡ self.old }
     {
         match &mut self.boxed {
             Some(rows) => rows.has(client),
@@ -86,7 +86,7 @@ impl<A: Allocator + Copy> BoxedRows<A> {
         ensures others { OnOk result ((other : ℕ)
             → lookup (is_at (nat_cmp other)) self.new
             ≡ (if client == other then Some 0 else lookup (is_at (nat_cmp other)) self.old)) }
-        ensures err { OnErr result (self.new ≡ self.old) }
+        ensures unchanged { OnErr result (self.new ≡ self.old) }
     {
         let mut rows = Box::new(self.alloc, Rows::new(self.alloc))?;
         rows.insert(client)?;
@@ -103,7 +103,7 @@ impl<A: Allocator + Copy> BoxedRows<A> {
         ensures others { OnOk result ((other : ℕ)
             → lookup (is_at (nat_cmp other)) self.new
             ≡ (if client == other then Some 0 else lookup (is_at (nat_cmp other)) self.old)) }
-        ensures err { OnErr result (self.new ≡ self.old) }
+        ensures unchanged { OnErr result (self.new ≡ self.old) }
     {
         match &mut self.boxed {
             Some(rows) => rows.insert(client),
@@ -113,8 +113,8 @@ impl<A: Allocator + Copy> BoxedRows<A> {
 
     /// Adds a read lock to a client's row, and returns how many it had before.
     pub(crate) fn add_read(&mut self, client: u64) -> u8
-        requires few { IfSome (lookup (is_at (nat_cmp client)) self.old) (λ reads. reads < 255) }
-        requires there { IsSome (lookup (is_at (nat_cmp client)) self.old) }
+        requires within { IfSome (lookup (is_at (nat_cmp client)) self.old) (λ reads. reads < 255) }
+        requires exists { IsSome (lookup (is_at (nat_cmp client)) self.old) }
         ensures before { lookup (is_at (nat_cmp client)) self.old ≡ Some result }
         ensures rows { self.new ≡ set_value (is_at (nat_cmp client)) self.old (result + 1) }
         ensures others { (other : ℕ)
@@ -132,7 +132,7 @@ impl<A: Allocator + Copy> BoxedRows<A> {
     /// Removes a read lock from a client's row, and returns how many it had before.
     pub(crate) fn take_read(&mut self, client: u64) -> u8
         requires some { IfSome (lookup (is_at (nat_cmp client)) self.old) (λ reads. 0 < reads) }
-        requires there { IsSome (lookup (is_at (nat_cmp client)) self.old) }
+        requires exists { IsSome (lookup (is_at (nat_cmp client)) self.old) }
         ensures before { lookup (is_at (nat_cmp client)) self.old ≡ Some result }
         ensures rows { self.new ≡ set_value (is_at (nat_cmp client)) self.old (result - 1) }
         ensures others { (other : ℕ)

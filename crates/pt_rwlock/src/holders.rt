@@ -1,10 +1,11 @@
 ghost use Rattle.std.specs.Prelude.{◌≡◌, ◌+◌, ◌-◌, Bool, IsTrue, IsSome, IsOk, IfErr, OnOk, OnErr};
 ghost use Rattle.std.specs.Prelude.{Some, is_some, false};
-ghost use Rattle.pt_types.specs.MutexTable.{is_number};
-ghost use Rattle.pt_types.specs.RwlockTable.{read_verdict, write_verdict, rwunlock_verdict, holds};
+ghost use Rattle.pt_types.specs.MutexTable.{is_some_number};
+ghost use Rattle.pt_types.specs.RwlockTable.{read_verdict, write_verdict, rwunlock_verdict};
+ghost use Rattle.pt_types.specs.RwlockTable.{has_lock};
 
 use crate::boxed::BoxedRows;
-use pt_types::{ClientId, How, MOST_READS, Outcome, Refusal, Verdict};
+use pt_types::{ClientId, How, MAX_READ_LOCKS, Outcome, Refusal, Verdict};
 use std::alloc::{Allocator, Global};
 use std::marker::Model;
 
@@ -31,13 +32,13 @@ pub struct Holders<A: Allocator + Copy = Global> {
 
 impl<A: Allocator + Copy> Model for Holders<A> {
     ghost use Rattle.std.specs.Prelude.{◌≡◌};
-    ghost use Rattle.pt_rwlock.specs.RwlockState.{RwlockState, readers_in};
+    ghost use Rattle.pt_rwlock.specs.RwlockState.{RwlockState, reader_count};
 
     ghost Value = { RwlockState };
 
     ghost view = { λ h. record { writer = h.writer; rows = h.reads } };
 
-    ghost invariant = { λ h. readers_in h.reads ≡ h.readers };
+    ghost invariant = { λ h. reader_count h.reads ≡ h.readers };
 }
 
 // Not derived, so that code that drops a lock has nothing to prove about its parts.
@@ -52,13 +53,14 @@ impl<A: Allocator + Copy> Drop for Holders<A> {
 }
 
 impl<A: Allocator + Copy> Holders<A> {
-    ghost use Rattle.pt_rwlock.specs.RwlockState.{made, row_of, reads_of, is_read, nobody_holds};
-    ghost use Rattle.pt_rwlock.specs.RwlockState.{seen_by, with_row, with_reads, can_acquire_read};
-    ghost use Rattle.pt_rwlock.specs.RwlockState.{ChangesRow, released, held};
+    ghost use Rattle.pt_rwlock.specs.RwlockState.{new_rwlock, reads_in_row, reads_of, has_readers};
+    ghost use Rattle.pt_rwlock.specs.RwlockState.{nobody_holds};
+    ghost use Rattle.pt_rwlock.specs.RwlockState.{view_for, with_row, with_reads, can_acquire_read};
+    ghost use Rattle.pt_rwlock.specs.RwlockState.{ChangesRow, rwlock_after_release, held_by};
 
     /// Creates a lock that nobody holds.  [XSH pthread_rwlock_init]
     pub fn new(alloc: A) -> Holders<A>
-        ensures { result ≡ made }
+        ensures { result ≡ new_rwlock }
     {
         Holders {
             writer: None,
@@ -73,9 +75,9 @@ impl<A: Allocator + Copy> Holders<A> {
         ensures ok { OnOk result (self.new ≡ with_row self.old client) }
         ensures row { let reads = reads_of self.old client in
             OnOk result (ChangesRow self.old self.new client (Some reads)) }
-        ensures again { IsSome (row_of self.old client) → IsOk result }
-        ensures reason { IfErr result (λ refusal. refusal ≡ Refusal.Enomem) }
-        ensures err { OnErr result (self.new ≡ self.old) }
+        ensures relock { IsSome (reads_in_row self.old client) → IsOk result }
+        ensures err { IfErr result (λ refusal. refusal ≡ Refusal.Enomem) }
+        ensures unchanged { OnErr result (self.new ≡ self.old) }
     {
         if self.has_row(client) {
             return Ok(());
@@ -88,15 +90,15 @@ impl<A: Allocator + Copy> Holders<A> {
 
     // Returns whether the client has a row.
     fn has_row(&mut self, client: ClientId) -> bool
-        ensures found { result ≡ is_some (row_of self.old client) }
-        ensures same { self.new ≡ self.old }
+        ensures found { result ≡ is_some (reads_in_row self.old client) }
+        ensures unchanged { self.new ≡ self.old }
     {
         self.reads.has(client.0)
     }
 
     /// Returns how the client holds the lock.  [XSH pthread_rwlock_unlock]
     pub fn held_by(&self, client: ClientId) -> Held
-        ensures { result ≡ held (seen_by self.now client) }
+        ensures { result ≡ held_by (view_for self.now client) }
     {
         if self.is_writer(client) {
             return Held::Write;
@@ -123,7 +125,7 @@ impl<A: Allocator + Copy> Holders<A> {
     }
 
     fn is_writer(&self, client: ClientId) -> bool
-        ensures { result ≡ (seen_by self.now client).writes }
+        ensures { result ≡ (view_for self.now client).writes }
     {
         self.writer == Some(client)
     }
@@ -135,7 +137,7 @@ impl<A: Allocator + Copy> Holders<A> {
     }
 
     fn is_read(&self) -> bool
-        ensures { result ≡ is_read self.now }
+        ensures { result ≡ has_readers self.now }
     {
         // The contract of `len` says that the rows are in order.
         let _rows = self.reads.len();
@@ -151,15 +153,15 @@ impl<A: Allocator + Copy> Holders<A> {
 
     /// Returns the verdict of a call for a read lock, given whether a writer of the caller's
     /// priority or a higher one waits.  [XSH pthread_rwlock_rdlock]
-    pub fn verdict_read_behind(&self, caller: ClientId, blocked: bool, how: How) -> Verdict
-        ensures { result ≡ read_verdict (seen_by self.now caller) blocked how }
+    pub fn verdict_read_blocked(&self, caller: ClientId, blocked: bool, how: How) -> Verdict
+        ensures { result ≡ read_verdict (view_for self.now caller) blocked how }
     {
         let reads = self.reads_of(caller);
         let writes = self.is_writer(caller);
         match how {
             How::Try if writes => Verdict::Reply(Outcome::Ebusy),
             _ if writes => Verdict::Reply(Outcome::Edeadlk),
-            _ if reads >= MOST_READS => Verdict::Reply(Outcome::Eagain),
+            _ if reads >= MAX_READ_LOCKS => Verdict::Reply(Outcome::Eagain),
             _ if reads > 0 => Verdict::Stands,
             _ if self.writer.is_none() && !blocked => Verdict::Stands,
             How::Try => Verdict::Reply(Outcome::Ebusy),
@@ -171,7 +173,7 @@ impl<A: Allocator + Copy> Holders<A> {
     /// Returns the verdict of the client's `wrlock`, `trywrlock` or `timedwrlock`. Doesn't check
     /// whether a deadline is due.  [XSH pthread_rwlock_wrlock, pthread_rwlock_timedwrlock]
     pub fn verdict_write(&self, caller: ClientId, how: How) -> Verdict
-        ensures { result ≡ write_verdict (seen_by self.now caller) how }
+        ensures { result ≡ write_verdict (view_for self.now caller) how }
     {
         let holds = self.holds(caller);
         match how {
@@ -187,7 +189,7 @@ impl<A: Allocator + Copy> Holders<A> {
     /// Returns the verdict of the client's `rwunlock`. EPERM is profile.
     /// [XSH pthread_rwlock_unlock]
     pub fn verdict_unlock(&self, caller: ClientId) -> Verdict
-        ensures { result ≡ rwunlock_verdict (seen_by self.now caller) }
+        ensures { result ≡ rwunlock_verdict (view_for self.now caller) }
     {
         if self.holds(caller) {
             Verdict::Reply(Outcome::Done)
@@ -198,7 +200,7 @@ impl<A: Allocator + Copy> Holders<A> {
 
     /// Returns whether the client holds the lock in either way.  [XSH pthread_rwlock_unlock]
     pub fn holds(&self, client: ClientId) -> bool
-        ensures { result ≡ holds (seen_by self.now client) }
+        ensures { result ≡ has_lock (view_for self.now client) }
     {
         self.held_by(client) != Held::Nothing
     }
@@ -227,9 +229,9 @@ impl<A: Allocator + Copy> Holders<A> {
 
     /// Takes back the client's write lock, or one of its read locks.  [XSH pthread_rwlock_unlock]
     pub fn release(&mut self, client: ClientId)
-        requires { IsTrue (holds (seen_by self.old client)) }
-        ensures change { self.new ≡ released self.old client }
-        ensures row { is_number self.old.writer client ≡ false
+        requires { IsTrue (has_lock (view_for self.old client)) }
+        ensures change { self.new ≡ rwlock_after_release self.old client }
+        ensures row { is_some_number self.old.writer client ≡ false
             → ChangesRow self.old self.new client (Some (reads_of self.old client - 1)) }
     {
         if self.is_writer(client) {

@@ -1,12 +1,13 @@
 ghost use Rattle.std.specs.Prelude.{◌≡◌, ◌<◌, length, ◌+◌, ◌-◌, Bool, IsTrue, IsSome, IsOk};
 ghost use Rattle.std.specs.Prelude.{IfErr, IfSome, IfNone, OnOk, OnErr, Some, false};
-ghost use Rattle.pt_types.specs.Limits.{most_priority};
-ghost use Rattle.pt_types.specs.MutexTable.{is_number};
-ghost use Rattle.pt_types.specs.RwlockTable.{read_verdict, write_verdict, rwunlock_verdict, holds};
+ghost use Rattle.pt_types.specs.Limits.{max_priority};
+ghost use Rattle.pt_types.specs.MutexTable.{is_some_number};
+ghost use Rattle.pt_types.specs.RwlockTable.{read_verdict, write_verdict, rwunlock_verdict};
+ghost use Rattle.pt_types.specs.RwlockTable.{has_lock};
 
 use crate::holders::{Held, Holders};
 use pt_lanes::any_from;
-use pt_types::{ClientId, How, MOST_PRIORITY, Priority, Refusal, Verdict};
+use pt_types::{ClientId, How, MAX_PRIORITY, Priority, Refusal, Verdict};
 use pt_waitq::Waiter;
 use std::alloc::{Allocator, Global};
 use std::marker::Model;
@@ -21,7 +22,7 @@ use std::marker::Model;
 pub struct RwObj<A: Allocator + Copy = Global> {
     holders: Holders<A>,
     /// The number of waiting writers of each priority. That of priority p is at index p - 1.
-    waiting_writers: [u32; MOST_PRIORITY],
+    waiting_writers: [u32; MAX_PRIORITY],
 }
 
 impl<A: Allocator + Copy> Model for RwObj<A> {
@@ -33,9 +34,10 @@ impl<A: Allocator + Copy> Model for RwObj<A> {
 }
 
 impl<A: Allocator + Copy> RwObj<A> {
-    ghost use Rattle.pt_rwlock.specs.RwlockState.{row_of, reads_of, nobody_holds, seen_by};
+    ghost use Rattle.pt_rwlock.specs.RwlockState.{reads_in_row, reads_of, nobody_holds, view_for};
     ghost use Rattle.pt_rwlock.specs.RwlockState.{with_row, with_reads, can_acquire_read};
-    ghost use Rattle.pt_rwlock.specs.RwlockState.{ChangesRow, released, may_have, held};
+    ghost use Rattle.pt_rwlock.specs.RwlockState.{ChangesRow, rwlock_after_release};
+    ghost use Rattle.pt_rwlock.specs.RwlockState.{is_grantable_to, held_by};
     ghost use Rattle.pt_rwlock.specs.AwaitedLock.{awaited_by_none, with_lock, SaysBlocked};
     ghost use Rattle.pt_rwlock.specs.AwaitedLock.{writers_at, with_writers, ChangesCount};
 
@@ -45,7 +47,7 @@ impl<A: Allocator + Copy> RwObj<A> {
     {
         RwObj {
             holders: Holders::new(alloc),
-            waiting_writers: [0; MOST_PRIORITY],
+            waiting_writers: [0; MAX_PRIORITY],
         }
     }
 
@@ -55,16 +57,16 @@ impl<A: Allocator + Copy> RwObj<A> {
         ensures ok { OnOk result (self.new ≡ with_lock self.old (with_row self.old.lock client)) }
         ensures row { let reads = reads_of self.old.lock client in
             OnOk result (ChangesRow self.old.lock self.new.lock client (Some reads)) }
-        ensures again { IsSome (row_of self.old.lock client) → IsOk result }
-        ensures reason { IfErr result (λ refusal. refusal ≡ Refusal.Enomem) }
-        ensures err { OnErr result (self.new ≡ self.old) }
+        ensures relock { IsSome (reads_in_row self.old.lock client) → IsOk result }
+        ensures err { IfErr result (λ refusal. refusal ≡ Refusal.Enomem) }
+        ensures unchanged { OnErr result (self.new ≡ self.old) }
     {
         self.holders.make_row(client)
     }
 
     /// Returns how the client holds the lock.  [XSH pthread_rwlock_unlock]
     pub fn held_by(&self, client: ClientId) -> Held
-        ensures { result ≡ held (seen_by self.now.lock client) }
+        ensures { result ≡ held_by (view_for self.now.lock client) }
     {
         self.holders.held_by(client)
     }
@@ -102,23 +104,23 @@ impl<A: Allocator + Copy> RwObj<A> {
     /// whether a deadline is due.  [XSH pthread_rwlock_rdlock, pthread_rwlock_timedrdlock]
     pub fn verdict_read(&self, caller: ClientId, priority: Priority, how: How) -> Verdict
         ensures { (blocked : Bool) → SaysBlocked self.now priority blocked
-            → result ≡ read_verdict (seen_by self.now.lock caller) blocked how }
+            → result ≡ read_verdict (view_for self.now.lock caller) blocked how }
     {
-        self.verdict_read_behind(caller, self.is_blocked(priority), how)
+        self.verdict_read_blocked(caller, self.is_blocked(priority), how)
     }
 
     /// Returns the verdict of a call for a read lock, given whether a writer of the caller's
     /// priority or a higher one waits.  [XSH pthread_rwlock_rdlock]
-    pub fn verdict_read_behind(&self, caller: ClientId, blocked: bool, how: How) -> Verdict
-        ensures { result ≡ read_verdict (seen_by self.now.lock caller) blocked how }
+    pub fn verdict_read_blocked(&self, caller: ClientId, blocked: bool, how: How) -> Verdict
+        ensures { result ≡ read_verdict (view_for self.now.lock caller) blocked how }
     {
-        self.holders.verdict_read_behind(caller, blocked, how)
+        self.holders.verdict_read_blocked(caller, blocked, how)
     }
 
     /// Returns the verdict of the client's `wrlock`, `trywrlock` or `timedwrlock`. Doesn't check
     /// whether a deadline is due.  [XSH pthread_rwlock_wrlock, pthread_rwlock_timedwrlock]
     pub fn verdict_write(&self, caller: ClientId, how: How) -> Verdict
-        ensures { result ≡ write_verdict (seen_by self.now.lock caller) how }
+        ensures { result ≡ write_verdict (view_for self.now.lock caller) how }
     {
         self.holders.verdict_write(caller, how)
     }
@@ -126,14 +128,14 @@ impl<A: Allocator + Copy> RwObj<A> {
     /// Returns the verdict of the client's `rwunlock`. EPERM is profile.
     /// [XSH pthread_rwlock_unlock]
     pub fn verdict_unlock(&self, caller: ClientId) -> Verdict
-        ensures { result ≡ rwunlock_verdict (seen_by self.now.lock caller) }
+        ensures { result ≡ rwunlock_verdict (view_for self.now.lock caller) }
     {
         self.holders.verdict_unlock(caller)
     }
 
     /// Returns whether the client holds the lock in either way.  [XSH pthread_rwlock_unlock]
     pub fn holds(&self, client: ClientId) -> bool
-        ensures { result ≡ holds (seen_by self.now.lock client) }
+        ensures { result ≡ has_lock (view_for self.now.lock client) }
     {
         self.holders.holds(client)
     }
@@ -146,7 +148,7 @@ impl<A: Allocator + Copy> RwObj<A> {
         ensures none { IfNone first (result ≡ false) }
         ensures some { (blocked : Bool)
             → IfSome first (λ waiter. SaysBlocked self.now waiter.prio blocked
-            → result ≡ may_have self.now.lock waiter blocked) }
+            → result ≡ is_grantable_to self.now.lock waiter blocked) }
     {
         match first {
             None => false,
@@ -166,7 +168,7 @@ impl<A: Allocator + Copy> RwObj<A> {
             self.new ≡ with_writers self.old priority (before + 1) }
         ensures count { let before = writers_at self.old priority in
             ChangesCount self.old self.new priority (before + 1) }
-        ensures priorities { length self.new.waiting ≡ most_priority }
+        ensures priorities { length self.new.waiting ≡ max_priority }
     {
         self.waiting_writers[priority.level() as usize - 1] += 1;
     }
@@ -178,7 +180,7 @@ impl<A: Allocator + Copy> RwObj<A> {
             self.new ≡ with_writers self.old priority (before - 1) }
         ensures count { let before = writers_at self.old priority in
             ChangesCount self.old self.new priority (before - 1) }
-        ensures priorities { length self.new.waiting ≡ most_priority }
+        ensures priorities { length self.new.waiting ≡ max_priority }
     {
         self.waiting_writers[priority.level() as usize - 1] -= 1;
     }
@@ -206,10 +208,10 @@ impl<A: Allocator + Copy> RwObj<A> {
 
     /// Takes back the client's write lock, or one of its read locks.  [XSH pthread_rwlock_unlock]
     pub fn release(&mut self, client: ClientId)
-        requires { IsTrue (holds (seen_by self.old.lock client)) }
-        ensures change { self.new ≡ with_lock self.old (released self.old.lock client) }
+        requires { IsTrue (has_lock (view_for self.old.lock client)) }
+        ensures change { self.new ≡ with_lock self.old (rwlock_after_release self.old.lock client) }
         ensures row { let reads = reads_of self.old.lock client in
-            is_number self.old.lock.writer client ≡ false
+            is_some_number self.old.lock.writer client ≡ false
             → ChangesRow self.old.lock self.new.lock client (Some (reads - 1)) }
     {
         self.holders.release(client);

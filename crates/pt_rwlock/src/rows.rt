@@ -13,7 +13,7 @@ use std::alloc::{AllocError, Allocator};
 use std::marker::Model;
 
 /// The least number of rows for which hints are made.
-const FEW: usize = 8;
+const MAX_SCANNED_ROWS: usize = 8;
 
 // Returns the read locks in the row at a place, if it is the client's.
 fn reads_at(rows: &[(u64, u8)], place: usize, client: u64) -> Option<u8>
@@ -54,7 +54,7 @@ fn reads_hinted(rows: &[(u64, u8)], hint: Option<usize>, client: u64) -> Option<
 
 // Returns the read locks in a client's row, if it has one. Finds it without a hint.
 #[inline(never)]
-fn reads_apart(rows: &[(u64, u8)], client: u64) -> Option<u8>
+fn scan_reads(rows: &[(u64, u8)], client: u64) -> Option<u8>
     requires { IsInOrder rows.now }
     ensures { result ≡ lookup (is_at (nat_cmp client)) rows.now }
 {
@@ -75,7 +75,7 @@ fn hinted(rows: &[(u64, u8)], hint: Option<usize>, client: u64) -> Option<usize>
 
 // Makes hints for these rows and one more, unless there are few.
 fn grow<A: Allocator + Copy>(hints: &mut Hints<A>, rows: &[(u64, u8)]) -> Result<(), AllocError> {
-    if rows.len() < FEW {
+    if rows.len() < MAX_SCANNED_ROWS {
         return Ok(());
     }
     hints.grow_for(rows.len(), |place| {
@@ -106,7 +106,7 @@ fn insert_at<A: Allocator + Copy>(
         ≡ (if client == other
         then Some 0
         else lookup (is_at (nat_cmp other)) rows.old.items)) }
-    ensures err { OnErr result (rows.new.items ≡ rows.old.items) }
+    ensures unchanged { OnErr result (rows.new.items ≡ rows.old.items) }
     ensures order { IsInOrder rows.new.items }
 {
     match rows.insert(place, (client, 0)) {
@@ -156,7 +156,7 @@ impl<A: Allocator + Copy> Rows<A> {
     /// Returns the number of rows.
     pub(crate) fn len(&self) -> usize
         ensures len { result ≡ length self.now }
-        ensures small { result < 2 ^ 63 }
+        ensures within { result < 2 ^ 63 }
         ensures ordered { IsInOrder self.now }
     {
         self.rows.len()
@@ -167,7 +167,7 @@ impl<A: Allocator + Copy> Rows<A> {
     #[inline(never)]
     fn search(&mut self, client: u64) -> usize
         ensures place { result ≡ place_in self.old client }
-        ensures same { self.new ≡ self.old }
+        ensures unchanged { self.new ≡ self.old }
     {
         let place = count_below(self.rows.as_slice(), client);
         self.hints.set(client, place);
@@ -177,7 +177,7 @@ impl<A: Allocator + Copy> Rows<A> {
     // Does what search does, but tries the client's hint first.
     fn note_place_of(&mut self, client: u64) -> usize
         ensures place { result ≡ place_in self.old client }
-        ensures same { self.new ≡ self.old }
+        ensures unchanged { self.new ≡ self.old }
     {
         match hinted(self.rows.as_slice(), self.hints.get(client), client) {
             Some(place) => place,
@@ -192,15 +192,15 @@ impl<A: Allocator + Copy> Rows<A> {
         let rows = self.rows.as_slice();
         match reads_hinted(rows, self.hints.get(client), client) {
             Some(reads) => Some(reads),
-            None => reads_apart(rows, client),
+            None => scan_reads(rows, client),
         }
     }
 
     // Returns whether a client has a row. Finds it without a hint, and stores its place as one.
     #[inline(never)]
-    fn has_apart(&mut self, client: u64) -> bool
+    fn scan_for(&mut self, client: u64) -> bool
         ensures found { result ≡ is_some (lookup (is_at (nat_cmp client)) self.old) }
-        ensures same { self.new ≡ self.old }
+        ensures unchanged { self.new ≡ self.old }
     {
         let place = self.search(client);
         reads_at(self.rows.as_slice(), place, client).is_some()
@@ -209,11 +209,11 @@ impl<A: Allocator + Copy> Rows<A> {
     /// Returns whether a client has a row. Its place is stored as the client's hint.
     pub(crate) fn has(&mut self, client: u64) -> bool
         ensures found { result ≡ is_some (lookup (is_at (nat_cmp client)) self.old) }
-        ensures same { self.new ≡ self.old }
+        ensures unchanged { self.new ≡ self.old }
     {
         match reads_hinted(self.rows.as_slice(), self.hints.get(client), client) {
             Some(_) => true,
-            None => self.has_apart(client),
+            None => self.scan_for(client),
         }
     }
 
@@ -226,7 +226,7 @@ impl<A: Allocator + Copy> Rows<A> {
         ensures others { OnOk result ((other : ℕ)
             → lookup (is_at (nat_cmp other)) self.new
             ≡ (if client == other then Some 0 else lookup (is_at (nat_cmp other)) self.old)) }
-        ensures err { OnErr result (self.new ≡ self.old) }
+        ensures unchanged { OnErr result (self.new ≡ self.old) }
     {
         grow(&mut self.hints, self.rows.as_slice())?;
         let place = count_below(self.rows.as_slice(), client);
@@ -238,7 +238,7 @@ impl<A: Allocator + Copy> Rows<A> {
     // Returns the read locks in a client's row, which is at `place`.
     fn reads(&self, place: usize, client: u64) -> u8
         requires place { place ≡ place_in self.now client }
-        requires there { IsSome (lookup (is_at (nat_cmp client)) self.now) }
+        requires exists { IsSome (lookup (is_at (nat_cmp client)) self.now) }
         ensures { lookup (is_at (nat_cmp client)) self.now ≡ Some result }
     {
         reads_at(self.rows.as_slice(), place, client).unwrap()
@@ -247,7 +247,7 @@ impl<A: Allocator + Copy> Rows<A> {
     // Sets the read locks in a client's row, which is at `place`.
     fn set(&mut self, place: usize, client: u64, reads: u8)
         requires place { place ≡ place_in self.old client }
-        requires there { IsSome (lookup (is_at (nat_cmp client)) self.old) }
+        requires exists { IsSome (lookup (is_at (nat_cmp client)) self.old) }
         ensures rows { self.new ≡ set_value (is_at (nat_cmp client)) self.old reads }
         ensures others { (other : ℕ)
             → lookup (is_at (nat_cmp other)) self.new
@@ -258,8 +258,8 @@ impl<A: Allocator + Copy> Rows<A> {
 
     /// Adds a read lock to a client's row, and returns how many it had before.
     pub(crate) fn add_read(&mut self, client: u64) -> u8
-        requires few { IfSome (lookup (is_at (nat_cmp client)) self.old) (λ reads. reads < 255) }
-        requires there { IsSome (lookup (is_at (nat_cmp client)) self.old) }
+        requires within { IfSome (lookup (is_at (nat_cmp client)) self.old) (λ reads. reads < 255) }
+        requires exists { IsSome (lookup (is_at (nat_cmp client)) self.old) }
         ensures before { lookup (is_at (nat_cmp client)) self.old ≡ Some result }
         ensures rows { self.new ≡ set_value (is_at (nat_cmp client)) self.old (result + 1) }
         ensures others { (other : ℕ)
@@ -277,7 +277,7 @@ impl<A: Allocator + Copy> Rows<A> {
     /// Removes a read lock from a client's row, and returns how many it had before.
     pub(crate) fn take_read(&mut self, client: u64) -> u8
         requires some { IfSome (lookup (is_at (nat_cmp client)) self.old) (λ reads. 0 < reads) }
-        requires there { IsSome (lookup (is_at (nat_cmp client)) self.old) }
+        requires exists { IsSome (lookup (is_at (nat_cmp client)) self.old) }
         ensures before { lookup (is_at (nat_cmp client)) self.old ≡ Some result }
         ensures rows { self.new ≡ set_value (is_at (nat_cmp client)) self.old (result - 1) }
         ensures others { (other : ℕ)

@@ -18,21 +18,24 @@ use Rattle.pt_model.specs.Starts.{Start}
 use Rattle.pt_model.specs.Histories.{History, Begin, ◌▷◌, place}
 use Rattle.pt_model.specs.Answers.{replies_from}
 use Rattle.pt_model.specs.Forced.{forced}
-use Rattle.pt_model.specs.Legal.{Takes, LegalBehind, LegalFrom, events_of}
+use Rattle.pt_model.specs.Legal.{TakesEvent, LegalSince, LegalFrom, events_of}
 use Rattle.pt_model.specs.Room.{need, entry_for, refusal, refusal_for_room, refusal_within}
 use Rattle.pt_model.specs.Steps.{begins}
 use Rattle.pt_model.proofs.Legality.{legal-more}
 use Rattle.pt_model.proofs.OneList.{one_list}
 use Rattle.pt_model.proofs.Steps.{step-event}
-use Rattle.pt_legal.specs.Cores.{Kept, past}
-use Rattle.pt_legal.specs.Applying.{Writes, is_death}
+use Rattle.pt_legal.specs.Cores.{CoreState, history_of}
+use Rattle.pt_legal.specs.Applying.{WritesEvent, is_death}
 use Rattle.pt_engine.specs.declared.line_id.LineId.{LineId}
-use Rattle.pt_engine.specs.Scripts.{Script, begun, core_of, line_id, calls_with, clients_with}
-use Rattle.pt_engine.specs.Scripts.{event_of_line, greeting, refusal_text, told_text}
-use Rattle.pt_engine.specs.Says.{SaysAll, SaysOf, SaysTo, IsRefused, IsAccepted, counted}
-use Rattle.pt_engine.specs.Says.{opened_for, refusal_of_event, refuses, lacks, accepts}
+use Rattle.pt_engine.specs.Scripts.{Script, empty_script, core_of, line_id, calls_with}
+use Rattle.pt_engine.specs.Scripts.{clients_with}
+use Rattle.pt_engine.specs.Scripts.{event_of_line, greeting, refusal_text, replies_text}
+use Rattle.pt_engine.specs.LineAnswers.{AnswersLines, AnswersEvent, AnswersRequest, IsRefused, IsAccepted}
+use Rattle.pt_engine.specs.LineAnswers.{count_line}
+use Rattle.pt_engine.specs.LineAnswers.{core_for_line, refusal_of_event, refuses, lacks, accepts}
 use Rattle.pt_engine.specs.Engines.{IsLegal}
-use Rattle.pt_script.specs.Laws.{BeginningsOfAll, OneText, SaysAllMet, SaysMet, SaysToMet}
+use Rattle.pt_script.specs.Laws.{BeginningsOfAll, OneText, AnswersLinesIf, AnswersEventIf}
+use Rattle.pt_script.specs.Laws.{AnswersRequestIf}
 use Rattle.pt_script.specs.Laws.{accepted, lines_of, refused, unmet}
 use Rattle.pt_engine.proofs.Opened.{legal_follow, legal_next, legal_opened, legal_settle}
 use Rattle.pt_engine.proofs.Opened.{limit_opened, same_start}
@@ -78,13 +81,14 @@ same_accepted s v line a xs b ys p q = (
   same_script a b (p.writes.starts ∙ sym q.writes.starts) entries (p.seen ∙ sym q.seen)
       (p.clients ∙ sym q.clients) calls,
   p.written
-      ∙ ap (λ es. greeting v line ++ told_text a.calls (replies_from (past core) es)) added
-      ∙ ap (λ rows. greeting v line ++ told_text rows (replies_from (past core) q.added)) calls
+      ∙ ap (λ es. greeting v line ++ replies_text a.calls (replies_from (history_of core) es)) added
+      ∙ ap (λ rows. greeting v line ++ replies_text rows (replies_from
+      (history_of core) q.added)) calls
       ∙ sym q.written,
 )
   where
-    core : Kept
-    core = opened_for s v
+    core : CoreState
+    core = core_for_line s v
 
     entries : a.entries ≡ b.entries
     entries =
@@ -111,7 +115,8 @@ unmet_not true true w d other = absurd cc
 unmet_not false ends w d other = absurd cc
 
 same_met : (wanted : Bool) (s : Script) (v : Event) (line : LineId) (a : Script) (xs : List ℕ)
-    (b : Script) (ys : List ℕ) → SaysMet wanted s v line a xs → SaysMet wanted s v line b ys
+    (b : Script) (ys : List ℕ) → AnswersEventIf wanted s v line a xs
+    → AnswersEventIf wanted s v line b ys
     → Same a xs b ys
 same_met wanted s v line a xs b ys (refused p) (refused q) = same_refused s v line a xs b ys p q
 same_met wanted s v line a xs b ys (refused p) (unmet w q) =
@@ -132,22 +137,24 @@ same_met wanted s v line a xs b ys (accepted n p) (accepted m q) =
     same_accepted s v line a xs b ys p q
 
 same_to : (wanted : Bool) (s : Script) (line : LineId) (r : Result Event Refusal) (a : Script)
-    (xs : List ℕ) (b : Script) (ys : List ℕ) → SaysToMet wanted s line r a xs
-    → SaysToMet wanted s line r b ys → Same a xs b ys
+    (xs : List ℕ) (b : Script) (ys : List ℕ) → AnswersRequestIf wanted s line r a xs
+    → AnswersRequestIf wanted s line r b ys → Same a xs b ys
 same_to wanted s line (Err why) a xs b ys p q = (p.0 ∙ sym q.0, p.1 ∙ sym q.1)
 same_to wanted s line (Ok v) a xs b ys p q = same_met wanted s v line a xs b ys p q
 
 same_all : (wanted : ℕ → Bool) (s : Script) (lines : List ScriptLine) (a : Script) (xs : List ℕ)
-    (b : Script) (ys : List ℕ) → SaysAllMet wanted s lines a xs → SaysAllMet wanted s lines b ys
+    (b : Script) (ys : List ℕ) → AnswersLinesIf wanted s lines a xs
+    → AnswersLinesIf wanted s lines b ys
     → Same a xs b ys
 same_all wanted s [] a xs b ys p q = (p.0 ∙ sym q.0, p.1 ∙ sym q.1)
 same_all wanted s (line ∷ more) a xs b ys p q =
     let first =
-    same_to (wanted zero) (counted s line.who) (line_id s line.who) (event_of_line s line) p.0 p.1
+    same_to (wanted zero) (count_line s line.who) (line_id s line.who)
+    (event_of_line s line) p.0 p.1
     q.0 q.1 p.3 q.3 in
     let rest =
     same_all (λ k. wanted (suc k)) p.0 more a p.2 b q.2 p.4
-    (subst (λ t. SaysAllMet (λ k. wanted (suc k)) t more b q.2) (sym first.0) q.4) in (
+    (subst (λ t. AnswersLinesIf (λ k. wanted (suc k)) t more b q.2) (sym first.0) q.4) in (
       rest.0,
       p.5 ∙ ap (λ t. t ++ p.2) first.1 ∙ ap (λ t. q.1 ++ t) rest.1 ∙ sym q.5,
     )
@@ -156,7 +163,7 @@ same_all wanted s (line ∷ more) a xs b ys p q =
 abbrev IsLegalAfter : Script → Type 0
 IsLegalAfter s = IsLegal (core_of s)
 
-begun_legal : IsLegalAfter begun
+begun_legal : IsLegalAfter empty_script
 begun_legal = record { starts = begins; legal = (refl, refl) }
 
 -- an event that is not refused can be accepted
@@ -165,7 +172,7 @@ can_accept : (s : Script) (v : Event) (line : LineId) → IsLegalAfter s
     → (next : Script) × (text : List ℕ) × IsAccepted s v line next text × IsLegalAfter next
 can_accept s v line legal none = (
   next,
-  greeting v line ++ told_text next.calls (replies_from h (entry ∷ rest.0)),
+  greeting v line ++ replies_text next.calls (replies_from h (entry ∷ rest.0)),
   record {
     accepted = none;
     writes = writes;
@@ -179,14 +186,14 @@ can_accept s v line legal none = (
   legal_next core (core_of next) v writes there,
 )
   where
-    core : Kept
-    core = opened_for s v
+    core : CoreState
+    core = core_for_line s v
 
     there : IsLegal core
     there = legal_opened (core_of s) legal v
 
     h : History
-    h = past core
+    h = history_of core
 
     entry : Entry
     entry = entry_for h v
@@ -210,22 +217,22 @@ can_accept s v line legal none = (
       start = core.start;
       entries = core.entries ++ entry ∷ rest.0;
       seen = s.seen;
-      clients = clients_with v line.who (place (past (core_of s))) s.clients;
-      calls = calls_with v line (place (past (core_of s))) s.calls;
+      clients = clients_with v line.who (place (history_of (core_of s))) s.clients;
+      calls = calls_with v line (place (history_of (core_of s))) s.calls;
     }
 
     longer :
-        LegalBehind core.start (core.entries ++ entry ∷ rest.0)
+        LegalSince core.start (core.entries ++ entry ∷ rest.0)
         (events_of core.entries ++ v ∷ [])
     longer =
         legal-more (Begin core.start) core.entries (entry ∷ rest.0) (events_of core.entries)
         (v ∷ []) there.legal
         (subst
-        (λ o. MatchOption o (Takes h entry (v ∷ []) (LegalFrom (h ▷ entry) rest.0))
+        (λ o. MatchOption o (TakesEvent h entry (v ∷ []) (LegalFrom (h ▷ entry) rest.0))
         (λ x. (entry ≡ x) × LegalFrom (h ▷ entry) rest.0 (v ∷ []))) (sym settled)
         (open_to, refl, rest.1))
 
-    writes : Writes core v (core_of next)
+    writes : WritesEvent core v (core_of next)
     writes = record {
       accepted = within;
       starts = refl;
@@ -236,11 +243,13 @@ can_accept s v line legal none = (
 
 -- there is a text for an event
 can_answer : (wanted : Bool) (s : Script) (v : Event) (line : LineId) → IsLegalAfter s
-    → (next : Script) × (text : List ℕ) × SaysMet wanted s v line next text × IsLegalAfter next
+    → (next : Script) × (text : List ℕ) × AnswersEventIf wanted s v line next text
+    × IsLegalAfter next
 can_answer wanted s v line legal = go (refusal_of_event s v) refl
   where
     go : (o : Option Refusal) → refusal_of_event s v ≡ o
-        → (next : Script) × (text : List ℕ) × SaysMet wanted s v line next text × IsLegalAfter next
+        → (next : Script) × (text : List ℕ) × AnswersEventIf wanted s v line next text
+        × IsLegalAfter next
     go (Some why) e = (
       s,
       refusal_text line why,
@@ -254,7 +263,7 @@ can_answer wanted s v line legal = go (refusal_of_event s v) refl
         lives false e = refl
 
         by : (b : Bool) → (wanted && not (is_death v)) ≡ b
-            → (next : Script) × (text : List ℕ) × SaysMet wanted s v line next text
+            → (next : Script) × (text : List ℕ) × AnswersEventIf wanted s v line next text
             × IsLegalAfter next
         by true both =
             let parts = and_parts wanted (not (is_death v)) both in (
@@ -275,17 +284,19 @@ can_answer wanted s v line legal = go (refusal_of_event s v) refl
 
 -- so there is for a line
 can_say : (wanted : Bool) (s : Script) (line : LineId) (r : Result Event Refusal) → IsLegalAfter s
-    → (next : Script) × (text : List ℕ) × SaysToMet wanted s line r next text × IsLegalAfter next
+    → (next : Script) × (text : List ℕ) × AnswersRequestIf wanted s line r next text
+    × IsLegalAfter next
 can_say wanted s line (Err why) legal = (s, refusal_text line why, (refl, refl), legal)
 can_say wanted s line (Ok v) legal = can_answer wanted s v line legal
 
 -- and for all lines
 can_say_all : (wanted : ℕ → Bool) (s : Script) (lines : List ScriptLine) → IsLegalAfter s
-    → (last : Script) × (text : List ℕ) × SaysAllMet wanted s lines last text
+    → (last : Script) × (text : List ℕ) × AnswersLinesIf wanted s lines last text
 can_say_all wanted s [] legal = (s, [], (refl, refl))
 can_say_all wanted s (line ∷ more) legal =
     let first =
-    can_say (wanted zero) (counted s line.who) (line_id s line.who) (event_of_line s line) legal in
+    can_say (wanted zero) (count_line s line.who) (line_id s line.who)
+    (event_of_line s line) legal in
     let rest = can_say_all (λ k. wanted (suc k)) first.0 more first.3 in (
       rest.0,
       first.1 ++ rest.1,
@@ -294,33 +305,35 @@ can_say_all wanted s (line ∷ more) legal =
 
 pub one_text : OneText
 one_text wanted lines =
-    let some = can_say_all wanted begun lines begun_legal in
+    let some = can_say_all wanted empty_script lines begun_legal in
     record {
       last = some.0;
       text = some.1;
       says = some.2;
-      one = λ other others says. same_all wanted begun lines other others some.0 some.1 says some.2;
+      one = λ other others says. same_all wanted empty_script lines other others some.0 some.1 says
+          some.2;
     }
 
 -- after lines the entries are still the legal list for their own events
 legal_of : (s : Script) (v : Event) (line : LineId) (next : Script) (text : List ℕ) → IsLegalAfter s
-    → SaysOf s v line next text → IsLegalAfter next
+    → AnswersEvent s v line next text → IsLegalAfter next
 legal_of s v line next text legal (refuses r) = subst IsLegalAfter (sym r.same) legal
 legal_of s v line next text legal (lacks r) = subst IsLegalAfter (sym r.same) legal
 legal_of s v line next text legal (accepts a) =
-    legal_next (opened_for s v) (core_of next) v a.writes (legal_opened (core_of s) legal v)
+    legal_next (core_for_line s v) (core_of next) v a.writes (legal_opened (core_of s) legal v)
 
 legal_to : (s : Script) (line : LineId) (r : Result Event Refusal) (next : Script) (text : List ℕ)
-    → IsLegalAfter s → SaysTo s line r next text → IsLegalAfter next
+    → IsLegalAfter s → AnswersRequest s line r next text → IsLegalAfter next
 legal_to s line (Err why) next text legal says = subst IsLegalAfter (sym says.0) legal
 legal_to s line (Ok v) next text legal says = legal_of s v line next text legal says
 
 legal_all : (s : Script) (lines : List ScriptLine) (last : Script) (text : List ℕ) → IsLegalAfter s
-    → SaysAll s lines last text → IsLegalAfter last
+    → AnswersLines s lines last text → IsLegalAfter last
 legal_all s [] last text legal says = subst IsLegalAfter (sym says.0) legal
 legal_all s (line ∷ more) last text legal says =
     legal_all says.0 more last says.2
-    (legal_to (counted s line.who) (line_id s line.who) (event_of_line s line) says.0 says.1 legal
+    (legal_to (count_line s line.who) (line_id s line.who)
+    (event_of_line s line) says.0 says.1 legal
     says.3)
     says.4
 
@@ -331,13 +344,13 @@ beginnings_of_all bytes text b =
     let all_lines : map script_of first ++ map script_of later ≡ lines_of bytes =
     sym (map-append script_of first later)
     ∙ ap (map script_of) (take-append-drop b.count (lines bytes)) in
-    let legal = legal_all begun (map script_of first) b.last b.whole begun_legal b.tells in
+    let legal = legal_all empty_script (map script_of first) b.last b.whole begun_legal b.tells in
     let rest = can_say_all (λ k. false) b.last (map script_of later) legal in
     let says =
-    subst (λ ls. SaysAll begun ls rest.0 (b.whole ++ rest.1)) all_lines
-    (says_join begun (map script_of first) b.last b.whole (map script_of later) rest.0 rest.1
+    subst (λ ls. AnswersLines empty_script ls rest.0 (b.whole ++ rest.1)) all_lines
+    (says_join empty_script (map script_of first) b.last b.whole (map script_of later) rest.0 rest.1
     b.tells (said_all (λ k. false) b.last (map script_of later) rest.0 rest.1 rest.2)) in
-    let all = met_all begun (lines_of bytes) rest.0 (b.whole ++ rest.1) says in
+    let all = met_all empty_script (lines_of bytes) rest.0 (b.whole ++ rest.1) says in
     record {
       wanted = all.0;
       last = rest.0;

@@ -4,7 +4,7 @@ use Rattle.std.proofs.Common.{MatchOption, refl, sym, ◌∙◌, subst, arith}
 use Rattle.pt_model.specs.declared.entry.Entry.{Entry}
 use Rattle.pt_model.specs.Histories.{History, ◌▷◌, is_forced}
 use Rattle.pt_model.specs.Forced.{forced}
-use Rattle.pt_model.specs.Legal.{Takes, LegalFrom}
+use Rattle.pt_model.specs.Legal.{TakesEvent, LegalFrom}
 use Rattle.pt_model.specs.Room.{need}
 use Rattle.pt_model.specs.Steps.{Step, joins, calls, dies, ticks, grants, trips, yields, expires}
 use Rattle.pt_model.specs.Steps.{Follows}
@@ -38,7 +38,7 @@ goes_on h (Some f) e rest =
     let more = rest f e in (
       f ∷ more.0,
       subst
-          (λ o. MatchOption o (Takes h f [] (LegalFrom (h ▷ f) more.0))
+          (λ o. MatchOption o (TakesEvent h f [] (LegalFrom (h ▷ f) more.0))
           (λ x. (f ≡ x) × LegalFrom (h ▷ f) more.0 [])) (sym e) (refl, more.1),
     )
 

@@ -5,11 +5,11 @@ use Rattle.std.specs.Result.{IsErrAnd, IfOk, IfErr}
 use Rattle.std.proofs.lemmas.List.{take-append-drop, take-append-le, drop-append-le}
 use Rattle.std.proofs.Math.Seq.{take-append_seam, drop-append_seam}
 use Rattle.pt_grammar.specs.declared.cut.Cut.{Cut}
-use Rattle.pt_grammar.specs.Lines.{Held, to_come}
+use Rattle.pt_grammar.specs.Lines.{CutterView, lines_to_come}
 use Rattle.pt_engine.specs.declared.fault.ScriptFault.{ScriptFault}
 use Rattle.pt_engine.specs.Scripts.{Script}
-use Rattle.pt_script.specs.Tellings.{AreTold, IsTold, Telling}
-use Rattle.pt_script.specs.Texts.{BreaksOff, IsCutShort, Writing}
+use Rattle.pt_script.specs.Tellings.{TellsBetween, TellsCuts, Telling}
+use Rattle.pt_script.specs.Texts.{BreaksOff, IsCutShort, WriterView}
 use Rattle.pt_script.specs.Stops.{IsCutOff}
 
 -- the bytes by which a text grew, and those that remain
@@ -33,8 +33,8 @@ cut_short old bytes text rest joins grows some = record {
 
 -- a buffer that was empty at first, after what was taken before
 pub onto_taken : (T : Telling) (s : Script) (cuts : List Cut) (begun : List ℕ) (last : Script)
-    (out shown old : List ℕ) → IsTold T s cuts begun last out → begun ≡ [] → shown ≡ out
-    → IsTold T s cuts old last (old ++ shown)
+    (out shown old : List ℕ) → TellsCuts T s cuts begun last out → begun ≡ [] → shown ≡ out
+    → TellsCuts T s cuts old last (old ++ shown)
 onto_taken T s cuts begun last out shown old a empty shows = record {
   text = a.text;
   tells = a.tells;
@@ -43,25 +43,26 @@ onto_taken T s cuts begun last out shown old a empty shows = record {
 
 -- a buffer that was empty at first holds what is told of the lines
 shown_text : (T : Telling) (s : Script) (cuts : List Cut) (begun : List ℕ) (last : Script)
-    (out shown : List ℕ) (a : IsTold T s cuts begun last out) → begun ≡ [] → shown ≡ out
+    (out shown : List ℕ) (a : TellsCuts T s cuts begun last out) → begun ≡ [] → shown ≡ out
     → shown ≡ a.text
 shown_text T s cuts begun last out shown a empty shows =
     shows ∙ a.grows ∙ ap (λ xs. xs ++ a.text) empty
 
 -- the writer failed within what is told of these lines
-pub cut_off : (T : Telling) (held fed : Held) (s : Script) (begun : List ℕ) (next : Held)
-    (last : Script) (out shown old : List ℕ) (w : Writing) → AreTold T fed s begun next last out
+pub cut_off : (T : Telling) (held fed : CutterView) (s : Script) (begun : List ℕ)
+    (next : CutterView)
+    (last : Script) (out shown old : List ℕ) (w : WriterView) → TellsBetween T fed s begun next last out
     → fed ≡ held → begun ≡ [] → shown ≡ out → BreaksOff old shown w → IsCutOff T held s old w
 cut_off T held fed s begun next last out shown old w a feeds empty shows breaks = record {
   cuts = a.cuts;
-  later = to_come next [];
+  later = lines_to_come next [];
   last = last;
-  text = a.told.text;
-  given = ap (λ h. to_come h []) (sym feeds) ∙ a.given [];
-  tells = a.told.tells;
+  text = a.appends.text;
+  given = ap (λ h. lines_to_come h []) (sym feeds) ∙ a.given [];
+  tells = a.appends.tells;
   breaks =
       subst (λ bytes. BreaksOff old bytes w)
-      (shown_text T s a.cuts begun last out shown a.told empty shows) breaks;
+      (shown_text T s a.cuts begun last out shown a.appends empty shows) breaks;
 }
 
 -- a fault that is returned is this one
@@ -71,19 +72,19 @@ told_fault (Ok done) fault P told holds = absurd told
 told_fault (Err f) fault P told holds = subst P (sym told) holds
 
 -- the writer failed within what is told of the last line
-pub last_cut_off : (T : Telling) (held : Held) (s : Script) (begun : List ℕ) (last : Script)
-    (out shown old : List ℕ) (w : Writing) → IsTold T s (to_come held []) begun last out
+pub last_cut_off : (T : Telling) (held : CutterView) (s : Script) (begun : List ℕ) (last : Script)
+    (out shown old : List ℕ) (w : WriterView) → TellsCuts T s (lines_to_come held []) begun last out
     → begun ≡ [] → shown ≡ out → BreaksOff old shown w → IsCutOff T held s old w
 last_cut_off T held s begun last out shown old w a empty shows breaks = record {
-  cuts = to_come held [];
+  cuts = lines_to_come held [];
   later = [];
   last = last;
   text = a.text;
-  given = sym (append-nil (to_come held []));
+  given = sym (append-nil (lines_to_come held []));
   tells = a.tells;
   breaks =
       subst (λ bytes. BreaksOff old bytes w)
-      (shown_text T s (to_come held []) begun last out shown a empty shows) breaks;
+      (shown_text T s (lines_to_come held []) begun last out shown a empty shows) breaks;
 }
 
 -- what holds of each success

@@ -8,16 +8,16 @@ use Rattle.pt_model.specs.declared.entry.Entry.{Entry}
 use Rattle.pt_model.specs.declared.entry.Event.{Event}
 use Rattle.pt_model.specs.Histories.{History, Begin, ◌▷◌}
 use Rattle.pt_model.specs.Forced.{forced}
-use Rattle.pt_model.specs.Room.{need, entry_for, is_full, is_over, needs_seal, refusal}
+use Rattle.pt_model.specs.Room.{need, entry_for, is_full, exceeds_limit, needs_seal, refusal}
 use Rattle.pt_model.specs.Room.{refusal_with_seals, refusal_within}
 use Rattle.pt_model.specs.Seals.{seal}
-use Rattle.pt_model.specs.SealLaws.{GoesAlike}
+use Rattle.pt_model.specs.SealLaws.{ContinuesAlike}
 use Rattle.pt_model.specs.Steps.{Step}
-use Rattle.pt_model.proofs.GoesAlike.{agrees_on}
+use Rattle.pt_model.proofs.ContinuesAlike.{agrees_on}
 use Rattle.pt_model.proofs.Induction.{start-seal}
 use Rattle.pt_model.proofs.Steps.{step-event}
-use Rattle.pt_legal.specs.Cores.{Kept, past}
-use Rattle.pt_legal.specs.Applying.{opened}
+use Rattle.pt_legal.specs.Cores.{CoreState, history_of}
+use Rattle.pt_legal.specs.Applying.{core_for_event}
 use Rattle.pt_legal.proofs.SealRoom.{needs-parts, none-over, refused-without}
 use Rattle.pt_engine.specs.Engines.{IsLegal}
 use Rattle.pt_engine.proofs.Opened.{legal_follow, legal_settle, opened_by, sealed_alike}
@@ -27,31 +27,31 @@ pub not_refused : (a b : Option Refusal) → option_or a b ≡ None → a ≡ No
 not_refused None b e = refl
 not_refused (Some why) b e = absurd cc
 
-module _ (core : Kept) (l : IsLegal core) (v : Event)
-    (none : refusal_with_seals core.limit (past core) v ≡ None) where
+module _ (core : CoreState) (l : IsLegal core) (v : Event)
+    (none : refusal_with_seals core.limit (history_of core) v ≡ None) where
   abbrev h : History
-  h = past core
+  h = history_of core
 
   abbrev g : History
-  g = Begin (seal (past core))
+  g = Begin (seal (history_of core))
 
-  alike : GoesAlike (past core) (Begin (seal (past core)))
+  alike : ContinuesAlike (history_of core) (Begin (seal (history_of core)))
   alike = sealed_alike core l
 
-  ok : refusal (past core) v ≡ None
+  ok : refusal (history_of core) v ≡ None
   ok =
       not_refused (refusal h v) (cond (is_full core.limit h v) (Some Full) None) none
 
-  quiet : forced (Begin (seal (past core))) ≡ None
+  quiet : forced (Begin (seal (history_of core))) ≡ None
   quiet = sym alike.forces ∙ legal_settle core l
 
-  refused : refusal (Begin (seal (past core))) v ≡ None
+  refused : refusal (Begin (seal (history_of core))) v ≡ None
   refused = sym (alike.refuses v) ∙ ok
 
-  step : Step (past core) (entry_for (past core) v)
+  step : Step (history_of core) (entry_for (history_of core) v)
   step = step-event h v (legal_settle core l) ok
 
-  step_sealed : Step (Begin (seal (past core))) (entry_for (past core) v)
+  step_sealed : Step (Begin (seal (history_of core))) (entry_for (history_of core) v)
   step_sealed = subst (Step g) (sym (alike.enters v)) (step-event g v quiet refused)
 
   -- the need after the event's entry is the same with a seal
@@ -61,17 +61,18 @@ module _ (core : Kept) (l : IsLegal core) (v : Event)
       ∙ sym (agrees_on (h ▷ entry_for h v) (g ▷ entry_for h v) (legal_follow core l, step)
       (start-seal h (legal_follow core l), step_sealed) (alike.agrees (entry_for h v) step)).needs
 
-  unrefused_sealed : needs_seal core.limit (past core) v ≡ true
-      → refusal_within core.limit (Begin (seal (past core))) v ≡ None
+  unrefused_sealed : needs_seal core.limit (history_of core) v ≡ true
+      → refusal_within core.limit (Begin (seal (history_of core))) v ≡ None
   unrefused_sealed needs =
       let room = (needs-parts core.limit h v needs).1 in
-      ap (λ o. option_or o (cond (is_over core.limit (g ▷ entry_for g v)) (Some Full) None)) refused
+      ap (λ o. option_or o (cond (exceeds_limit core.limit (g ▷ entry_for g v))
+      (Some Full) None)) refused
       ∙ ap (λ b. cond b (Some Full) None)
       (none-over core.limit (1 + need (g ▷ entry_for g v)) (omega (arith, room, need_sealed)))
 
-  pub unrefused_opened : refusal_within (opened core v).limit
-      (past (opened core v)) v ≡ None
+  pub unrefused_opened : refusal_within (core_for_event core v).limit
+      (history_of (core_for_event core v)) v ≡ None
   unrefused_opened =
-      opened_by (λ k. refusal_within k.limit (past k) v ≡ None) core v
+      opened_by (λ k. refusal_within k.limit (history_of k) v ≡ None) core v
       (λ same. sym (refused-without core.limit h v same) ∙ none)
       (λ needs. unrefused_sealed needs)

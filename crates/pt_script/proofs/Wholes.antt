@@ -9,15 +9,17 @@ use Rattle.std.specs.Prelude.{Result, Ok, Err, OnOk}
 use Rattle.pt_io.specs.Devices.{moves_none}
 use Rattle.pt_grammar.specs.declared.cut.Cut.{Cut}
 use Rattle.pt_grammar.specs.Cuts.{cut_of}
-use Rattle.pt_grammar.specs.Lines.{Held, IsBegun, lines, lines_after, lines_past_newline, to_come}
-use Rattle.pt_engine.specs.Scripts.{Script, begun}
+use Rattle.pt_grammar.specs.Lines.{CutterView, HasNoWholeLine, lines, lines_after}
+use Rattle.pt_grammar.specs.Lines.{lines_after_newline, lines_to_come}
+use Rattle.pt_engine.specs.Scripts.{Script, empty_script}
 use Rattle.pt_engine.specs.declared.fault.ScriptFault.{ScriptFault}
 use Rattle.pt_engine.specs.declared.fault.ScriptFault.TheVariants.{Read, Write, Memory}
-use Rattle.pt_script.specs.Ends.{BeginsScriptText, Course, IsBehind, IsFaultOf, IsScriptText}
+use Rattle.pt_script.specs.Ends.{BeginsScriptText, RunView, HasAnsweredLines, IsFaultOf}
+use Rattle.pt_script.specs.Ends.{IsScriptText}
 use Rattle.pt_script.specs.Ends.{TellsWhole}
-use Rattle.pt_script.specs.Stops.{IsCutOff, IsEnd, IsStopped}
-use Rattle.pt_script.specs.Tellings.{AreTold, IsTelling, Telling}
-use Rattle.pt_script.specs.Texts.{Writing}
+use Rattle.pt_script.specs.Stops.{IsCutOff, IsEnd, StopsAtFault}
+use Rattle.pt_script.specs.Tellings.{TellsBetween, IsTelling, Telling}
+use Rattle.pt_script.specs.Texts.{WriterView}
 
 -- each line has a byte of its own, except one that was begun before
 few_after : (text bytes : List ℕ) → length (lines_after text bytes) ≤ length bytes + length text
@@ -50,47 +52,50 @@ pub few_lines : (bytes : List ℕ) → length (lines bytes) ≤ length bytes
 few_lines bytes = let few = few_after [] bytes in omega (arith, few)
 
 -- bytes that are held count like bytes that come later
-pub fed : (held : Held) (piece more : List ℕ)
-    → to_come (record held { rest = held.rest ++ piece }) more ≡ to_come held (piece ++ more)
+pub fed : (held : CutterView) (piece more : List ℕ)
+    → lines_to_come (record held { rest = held.rest ++ piece }) more ≡ lines_to_come held (piece
+    ++ more)
 fed held piece more =
-    ap (λ bytes. cond held.dropping (lines_past_newline bytes) (lines bytes))
+    ap (λ bytes. cond held.dropping (lines_after_newline bytes) (lines bytes))
     (append_assoc held.rest piece more)
 
-pub fed_end : (held : Held) (piece : List ℕ)
-    → to_come (record held { rest = held.rest ++ piece }) [] ≡ to_come held piece
-fed_end held piece = fed held piece [] ∙ ap (to_come held) (append-nil piece)
+pub fed_end : (held : CutterView) (piece : List ℕ)
+    → lines_to_come (record held { rest = held.rest ++ piece }) [] ≡ lines_to_come held piece
+fed_end held piece = fed held piece [] ∙ ap (lines_to_come held) (append-nil piece)
 
 -- as many lines were seen as were given, and the rest are still to come
-pub behind_few : (T : Telling) (laws : IsTelling T) (bytes : List ℕ) (held : Held) (s : Script)
-    (text : List ℕ) (more : List ℕ) → IsBehind T bytes held s text
-    → length s.seen + length (to_come held more) ≤ length (bytes ++ more)
+pub behind_few : (T : Telling) (laws : IsTelling T) (bytes : List ℕ) (held : CutterView)
+    (s : Script)
+    (text : List ℕ) (more : List ℕ) → HasAnsweredLines T bytes held s text
+    → length s.seen + length (lines_to_come held more) ≤ length (bytes ++ more)
 behind_few T laws bytes held s text more b =
-    let seen = laws.counts begun b.cuts s text b.tells in
-    let all = ap length (b.given more) ∙ length-append b.cuts (to_come held more) in
+    let seen = laws.counts empty_script b.cuts s text b.tells in
+    let all = ap length (b.given more) ∙ length-append b.cuts (lines_to_come held more) in
     let few = few_lines (bytes ++ more) in
     omega (arith, seen, all, few)
 
 -- one more piece was told of
-pub behind_fed : (T : Telling) (laws : IsTelling T) (bytes piece : List ℕ) (held : Held)
-    (s : Script) (text : List ℕ) (next : Held) (last : Script) (new : List ℕ)
-    → IsBehind T bytes held s text
-    → AreTold T (record held { rest = held.rest ++ piece }) s text next last new
-    → IsBehind T (bytes ++ piece) next last new
+pub behind_fed : (T : Telling) (laws : IsTelling T) (bytes piece : List ℕ) (held : CutterView)
+    (s : Script) (text : List ℕ) (next : CutterView) (last : Script) (new : List ℕ)
+    → HasAnsweredLines T bytes held s text
+    → TellsBetween T (record held { rest = held.rest ++ piece }) s text next last new
+    → HasAnsweredLines T (bytes ++ piece) next last new
 behind_fed T laws bytes piece held s text next last new b a = record {
   cuts = b.cuts ++ a.cuts;
   given = λ more.
       ap lines (append_assoc bytes piece more)
       ∙ b.given (piece ++ more)
       ∙ ap (λ xs. b.cuts ++ xs) (sym (fed held piece more) ∙ a.given more)
-      ∙ sym (append_assoc b.cuts a.cuts (to_come next more));
+      ∙ sym (append_assoc b.cuts a.cuts (lines_to_come next more));
   tells =
-      subst (λ t. T begun (b.cuts ++ a.cuts) last t) (sym a.told.grows)
-      (laws.join begun b.cuts s text a.cuts last a.told.text b.tells a.told.tells);
+      subst (λ t. T empty_script (b.cuts ++ a.cuts) last t) (sym a.appends.grows)
+      (laws.join empty_script b.cuts s text a.cuts last a.appends.text b.tells a.appends.tells);
 }
 
 -- the first lines of these bytes, with a text for them
 begins_at : (T : Telling) (bytes : List ℕ) (xs later : List Cut) (last : Script)
-    (whole text : List ℕ) → lines bytes ≡ xs ++ later → T begun xs last whole → IsPrefix text whole
+    (whole text : List ℕ) → lines bytes ≡ xs ++ later → T empty_script xs last whole
+    → IsPrefix text whole
     → (b : BeginsScriptText T bytes text) × (b.whole ≡ whole)
 begins_at T bytes xs later last whole text all tells begins = (
   record {
@@ -99,7 +104,7 @@ begins_at T bytes xs later last whole text all tells begins = (
     whole = whole;
     within = let long = ap length all ∙ length-append xs later in omega (arith, long);
     tells =
-        subst (λ ls. T begun ls last whole)
+        subst (λ ls. T empty_script ls last whole)
         (sym (ap (take (length xs)) all ∙ take-append_seam xs later)) tells;
     begins = begins;
   },
@@ -107,16 +112,17 @@ begins_at T bytes xs later last whole text all tells begins = (
 )
 
 -- what was written is the text for the lines so far
-pub behind_begins : (T : Telling) (bytes : List ℕ) (held : Held) (s : Script) (text more : List ℕ)
-    → IsBehind T bytes held s text → BeginsScriptText T (bytes ++ more) text
+pub behind_begins : (T : Telling) (bytes : List ℕ) (held : CutterView) (s : Script)
+    (text more : List ℕ)
+    → HasAnsweredLines T bytes held s text → BeginsScriptText T (bytes ++ more) text
 behind_begins T bytes held s text more b =
-    (begins_at T (bytes ++ more) b.cuts (to_come held more) s text text (b.given more) b.tells
+    (begins_at T (bytes ++ more) b.cuts (lines_to_come held more) s text text (b.given more) b.tells
     ([], append-nil text)).0
 
 -- the writer failed within what is told of the next lines
-pub behind_cut_off : (T : Telling) (laws : IsTelling T) (bytes : List ℕ) (held next : Held)
-    (s : Script) (text more : List ℕ) (w : Writing) → IsBehind T bytes held s text
-    → to_come next [] ≡ to_come held more → IsCutOff T next s text w
+pub behind_cut_off : (T : Telling) (laws : IsTelling T) (bytes : List ℕ) (held next : CutterView)
+    (s : Script) (text more : List ℕ) (w : WriterView) → HasAnsweredLines T bytes held s text
+    → lines_to_come next [] ≡ lines_to_come held more → IsCutOff T next s text w
     → (b : BeginsScriptText T (bytes ++ more) w.taken) × (length w.flushed < length b.whole)
 behind_cut_off T laws bytes held next s text more w b same off =
     let begins = begins_at T (bytes ++ more) (b.cuts ++ off.cuts) off.later off.last
@@ -124,7 +130,7 @@ behind_cut_off T laws bytes held next s text more w b same off =
     (b.given more
     ∙ ap (λ xs. b.cuts ++ xs) (sym same ∙ off.given)
     ∙ sym (append_assoc b.cuts off.cuts off.later))
-    (laws.join begun b.cuts s text off.cuts off.last off.text b.tells off.tells) (
+    (laws.join empty_script b.cuts s text off.cuts off.last off.text b.tells off.tells) (
       off.breaks.rest,
       ap (λ xs. xs ++ off.breaks.rest) off.breaks.taken
           ∙ append_assoc text off.breaks.front off.breaks.rest
@@ -137,38 +143,40 @@ behind_cut_off T laws bytes held next s text more w b same off =
     (begins.0, omega (arith, flushed, parts, some, whole))
 
 -- all lines were told of
-pub behind_end : (T : Telling) (laws : IsTelling T) (bytes : List ℕ) (held : Held) (s : Script)
-    (text new : List ℕ) (count entries : ℕ) → IsBehind T bytes held s text
+pub behind_end : (T : Telling) (laws : IsTelling T) (bytes : List ℕ) (held : CutterView)
+    (s : Script)
+    (text new : List ℕ) (count entries : ℕ) → HasAnsweredLines T bytes held s text
     → IsEnd T held s text new count entries → IsScriptText T bytes new count entries
 behind_end T laws bytes held s text new count entries b end = record {
   last = end.last;
   tells = told;
-  lines = end.lines ∙ laws.counts begun (lines bytes) end.last new told ∙ omega arith;
+  lines = end.lines ∙ laws.counts empty_script (lines bytes) end.last new told ∙ omega arith;
   history = end.history;
 }
   where
-    all : lines bytes ≡ b.cuts ++ to_come held []
+    all : lines bytes ≡ b.cuts ++ lines_to_come held []
     all = ap lines (sym (append-nil bytes)) ∙ b.given []
 
-    told : T begun (lines bytes) end.last new
+    told : T empty_script (lines bytes) end.last new
     told =
-        subst (λ t. T begun (lines bytes) end.last t) (sym end.told.grows)
-        (subst (λ xs. T begun xs end.last (text ++ end.told.text)) (sym all)
-        (laws.join begun b.cuts s text (to_come held []) end.last end.told.text b.tells
-        end.told.tells))
+        subst (λ t. T empty_script (lines bytes) end.last t) (sym end.appends.grows)
+        (subst (λ xs. T empty_script xs end.last (text ++ end.appends.text)) (sym all)
+        (laws.join empty_script b.cuts s text (lines_to_come held []) end.last end.appends.text b.tells
+        end.appends.tells))
 
 -- what was written, after more bytes have come
-pub begins_given : (T : Telling) (bytes given more : List ℕ) (held : Held) (s : Script)
-    (text : List ℕ) → IsBehind T bytes held s text → given ≡ bytes ++ more
+pub begins_given : (T : Telling) (bytes given more : List ℕ) (held : CutterView) (s : Script)
+    (text : List ℕ) → HasAnsweredLines T bytes held s text → given ≡ bytes ++ more
     → BeginsScriptText T given text
 begins_given T bytes given more held s text b gives =
     subst (λ bs. BeginsScriptText T bs text) (sym gives) (behind_begins T bytes held s text more b)
 
 -- what was written, if telling was stopped
 pub stopped_begins : (T : Telling) (laws : IsTelling T) (bytes given more : List ℕ)
-    (held next : Held) (s : Script) (text : List ℕ) (w : Writing) (fault : ScriptFault)
-    → IsBehind T bytes held s text → given ≡ bytes ++ more → to_come next [] ≡ to_come held more
-    → IsStopped T fault next s text w → BeginsScriptText T given w.taken
+    (held next : CutterView) (s : Script) (text : List ℕ) (w : WriterView) (fault : ScriptFault)
+    → HasAnsweredLines T bytes held s text → given ≡ bytes ++ more → lines_to_come next []
+    ≡ lines_to_come held more
+    → StopsAtFault T fault next s text w → BeginsScriptText T given w.taken
 stopped_begins T laws bytes given more held next s text w Read b gives same stop = absurd stop
 stopped_begins T laws bytes given more held next s text w Write b gives same stop =
     subst (λ bs. BeginsScriptText T bs w.taken) (sym gives)
@@ -178,20 +186,22 @@ stopped_begins T laws bytes given more held next s text w Memory b gives same st
     (begins_given T bytes given more held s text b gives)
 
 -- all whole lines in these bytes were told of
-pub whole_told : (T : Telling) (bytes : List ℕ) (held : Held) (s : Script)
-    (text given new : List ℕ) → IsBehind T bytes held s text → IsBegun held → given ≡ bytes
+pub whole_told : (T : Telling) (bytes : List ℕ) (held : CutterView) (s : Script)
+    (text given new : List ℕ) → HasAnsweredLines T bytes held s text → HasNoWholeLine held → given
+    ≡ bytes
     → new ≡ text → TellsWhole T given new
 whole_told T bytes held s text given new b begins same wrote =
     subst (λ bs. TellsWhole T bs new) (sym same)
     (subst (λ t. TellsWhole T bytes t) (sym wrote)
-    (record { rest = held; last = s; behind = b; begun = begins }))
+    (record { rest = held; last = s; answered = b; begun = begins }))
 
 -- why telling was stopped
-pub stopped_why : (T : Telling) (laws : IsTelling T) (bytes more : List ℕ) (held next : Held)
-    (s : Script) (text : List ℕ) (c : Course) (fault : ScriptFault) → IsBehind T bytes held s text
-    → IsBegun held → c.reader.given ≡ bytes ++ more → c.reader.earlier ≡ bytes
-    → to_come next [] ≡ to_come held more → c.reader.failures ≡ 0
-    → IsStopped T fault next s text c.writer → IsFaultOf T c fault
+pub stopped_why : (T : Telling) (laws : IsTelling T) (bytes more : List ℕ) (held next : CutterView)
+    (s : Script) (text : List ℕ) (c : RunView) (fault : ScriptFault)
+    → HasAnsweredLines T bytes held s text
+    → HasNoWholeLine held → c.reader.given ≡ bytes ++ more → c.reader.earlier ≡ bytes
+    → lines_to_come next [] ≡ lines_to_come held more → c.reader.failures ≡ 0
+    → StopsAtFault T fault next s text c.writer → IsFaultOf T c fault
 stopped_why T laws bytes more held next s text c Read b begins gives before same read stop =
     absurd stop
 stopped_why T laws bytes more held next s text c Write b begins gives before same read stop =
@@ -239,13 +249,15 @@ pub never_ended : (before after : Bool) → before ≡ false → after ≡ (befo
 never_ended before after none says = says ∙ ap (λ b. b || false) none
 
 -- before the first byte no line has come, and none is begun
-pub behind_begun : (T : Telling) (laws : IsTelling T) (given : List ℕ) (held : Held) (s : Script)
-    (text : List ℕ) → given ≡ [] → held ≡ record { rest = []; dropping = false } → s ≡ begun
-    → text ≡ [] → IsBehind T given held s text
+pub behind_begun : (T : Telling) (laws : IsTelling T) (given : List ℕ) (held : CutterView)
+    (s : Script)
+    (text : List ℕ) → given ≡ [] → held ≡ record { rest = []; dropping = false } → s ≡ empty_script
+    → text ≡ [] → HasAnsweredLines T given held s text
 behind_begun T laws given held s text eg eh es et =
-    rw (eg, eh, es, et) (record { cuts = []; given = λ more. refl; tells = laws.none begun })
+    rw (eg, eh, es, et) (record { cuts = []; given = λ more. refl; tells = laws.none empty_script })
 
-pub begun_held : (held : Held) → held ≡ record { rest = []; dropping = false } → IsBegun held
+pub begun_held : (held : CutterView) → held ≡ record { rest = []; dropping = false }
+    → HasNoWholeLine held
 begun_held held e =
     rw e (record {
       no_newline = λ i lt e. absurd (omega (arith, lt));

@@ -3,8 +3,8 @@ use Rattle.std.specs.Prelude.{◌≡◌, ℕ, ◌++◌, ◌⊎◌, true, List, [
 use Rattle.pt_engine.specs.declared.fault.ScriptFault.{ScriptFault}
 use Rattle.pt_engine.specs.declared.fault.ScriptFault.TheVariants.{Read, Write, Memory}
 use Rattle.pt_script.specs.Tellings.{Telling}
-use Rattle.pt_script.specs.Texts.{IsBroken, Writing}
-use Rattle.pt_script.specs.Ends.{Course, IsFaultOf, IsScriptText}
+use Rattle.pt_script.specs.Texts.{IsBroken, WriterView}
+use Rattle.pt_script.specs.Ends.{RunView, IsFaultOf, IsScriptText}
 
 -- the exit status after a fault: 3 for that of a device, 5 for lack of memory  [profile]
 abbrev pub status_of : ScriptFault → ℕ
@@ -23,7 +23,7 @@ abbrev pub report_of : ScriptFault → List ℕ
 report_of fault = words_of fault ++ 10 ∷ []
 
 -- the writer broke while a line was written after the old text, or while it was flushed
-pub record IsCutReport (old line : List ℕ) (w : Writing) : Type 0 where
+pub record IsCutReport (old line : List ℕ) (w : WriterView) : Type 0 where
   pub front : List ℕ
   pub rest : List ℕ
   pub parts : line ≡ front ++ rest
@@ -31,12 +31,12 @@ pub record IsCutReport (old line : List ℕ) (w : Writing) : Type 0 where
   pub cause : IsBroken w.failures w.rejections
 
 -- a line was written after the old text, and is flushed; or the writer broke
-abbrev pub Reports : List ℕ → List ℕ → Writing → Type 0
+abbrev pub Reports : List ℕ → List ℕ → WriterView → Type 0
 Reports old line w =
     ((w.taken ≡ old ++ line) × (w.flushed ≡ old ++ line)) ⊎ IsCutReport old line w
 
 -- all was read, and its whole text is written and flushed
-pub record IsDone (Tells : Telling) (c : Course) : Type 0 where
+pub record IsDone (Tells : Telling) (c : RunView) : Type 0 where
   pub lines : ℕ
   pub entries : ℕ
   pub text : IsScriptText Tells c.reader.given c.writer.taken lines entries
@@ -47,7 +47,7 @@ pub record IsDone (Tells : Telling) (c : Course) : Type 0 where
 
 -- how the program ends: with status 0 and no report, if all is done; otherwise with the status of a
 -- fault, which is reported
-pub data EndsWith (Tells : Telling) (c : Course) (old : List ℕ) (errors : Writing)
+pub data EndsWith (Tells : Telling) (c : RunView) (old : List ℕ) (errors : WriterView)
     (status : ℕ) : Type 0 where
   done : IsDone Tells c → errors.taken ≡ old → status ≡ 0 → EndsWith Tells c old errors status
   stops : (fault : ScriptFault) → IsFaultOf Tells c fault → Reports old (report_of fault) errors

@@ -5,7 +5,7 @@ use Rattle.std.proofs.Math.ListN.{length-map}
 use Rattle.pt_grammar.specs.declared.cut.Cut.{Cut}
 use Rattle.pt_grammar.specs.Script.{script_of}
 use Rattle.pt_engine.specs.Scripts.{Script}
-use Rattle.pt_engine.specs.Says.{SaysAll}
+use Rattle.pt_engine.specs.LineAnswers.{AnswersLines}
 use Rattle.pt_engine.proofs.Runs.{says_join, says_all_seen}
 use Rattle.pt_script.specs.Tellings.{IsTelling, answers}
 
@@ -14,7 +14,7 @@ answers_join : (s : Script) (xs : List Cut) (mid : Script) (text : List ℕ) (ys
     (last : Script) (more : List ℕ) → answers s xs mid text → answers mid ys last more
     → answers s (xs ++ ys) last (text ++ more)
 answers_join s xs mid text ys last more says then =
-    subst (λ ls. SaysAll s ls last (text ++ more)) (sym (map-append script_of xs ys))
+    subst (λ ls. AnswersLines s ls last (text ++ more)) (sym (map-append script_of xs ys))
     (says_join s (map script_of xs) mid text (map script_of ys) last more says then)
 
 -- each line is counted

@@ -17,7 +17,7 @@ IsBroken failures rejections =
 
 -- what a writer took, what of it is flushed, how often it failed, and the number of writes
 -- meanwhile that took none of their bytes
-pub record Writing : Type 0 where
+pub record WriterView : Type 0 where
   pub taken : List ℕ
   pub flushed : List ℕ
   pub failures : ℕ
@@ -26,9 +26,9 @@ pub record Writing : Type 0 where
 -- the same for a writer of any type, from what contracts see of it: what it took, what is flushed,
 -- how often it failed, and the number of its writes that took no byte; the last two arguments are
 -- the writer before and after
-abbrev pub writing : {W : Type 0} → (W → List ℕ) → (W → List ℕ) → (W → ℕ) → (W → ℕ) → W → W
-    → Writing
-writing taken flushed failures rejections old new = record {
+abbrev pub writer_view : {W : Type 0} → (W → List ℕ) → (W → List ℕ) → (W → ℕ) → (W → ℕ) → W → W
+    → WriterView
+writer_view taken flushed failures rejections old new = record {
   taken = taken new;
   flushed = flushed new;
   failures = failures new;
@@ -37,7 +37,7 @@ writing taken flushed failures rejections old new = record {
 
 -- the writer broke while these bytes were written after the old text, or while they were flushed: a
 -- front of them was taken, in order, and none of them is flushed
-pub record BreaksOff (old bytes : List ℕ) (w : Writing) : Type 0 where
+pub record BreaksOff (old bytes : List ℕ) (w : WriterView) : Type 0 where
   pub front : List ℕ
   pub rest : List ℕ
   pub some : 0 < length bytes
@@ -47,7 +47,7 @@ pub record BreaksOff (old bytes : List ℕ) (w : Writing) : Type 0 where
   pub cause : IsBroken w.failures w.rejections
 
 -- the writer has taken and flushed the old text, and was not given up
-pub record IsUntouched (old : List ℕ) (w : Writing) : Type 0 where
+pub record IsUntouched (old : List ℕ) (w : WriterView) : Type 0 where
   pub taken : w.taken ≡ old
   pub flushed : w.flushed ≡ old
   pub failures : w.failures ≡ 0

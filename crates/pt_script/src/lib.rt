@@ -33,5 +33,5 @@ mod writing;
 pub use laws::{law_answers_have_lines, law_beginnings, law_one_text};
 pub use program::{answer, report, status_of};
 pub use pt_engine::{ENTRIES_BETWEEN_SEALS, ScriptFault};
-pub use whole::{MOST_READS, ScriptEnd, script, script_within};
+pub use whole::{MAX_DEVICE_READS, ScriptEnd, script, script_within};
 pub use writing::deliver;

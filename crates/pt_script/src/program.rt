@@ -1,10 +1,10 @@
 ghost use Rattle.std.specs.Prelude.{◌≡◌, ◌≤◌, ◌+◌, ◌^◌, [], false};
-ghost use Rattle.pt_model.specs.Starts.{nothing};
-ghost use Rattle.pt_legal.specs.Cores.{shown};
+ghost use Rattle.pt_model.specs.Starts.{empty_start};
+ghost use Rattle.pt_legal.specs.Cores.{core_state};
 ghost use Rattle.pt_engine.specs.Scripts.{entries_between_seals};
-ghost use Rattle.pt_script.specs.Ends.{reading};
+ghost use Rattle.pt_script.specs.Ends.{reader_view};
 ghost use Rattle.pt_script.specs.Tellings.{answers};
-ghost use Rattle.pt_script.specs.Texts.{writing};
+ghost use Rattle.pt_script.specs.Texts.{writer_view};
 ghost use Rattle.pt_script.specs.Programs.{EndsWith, Reports, report_of, status_of};
 
 use crate::whole::script;
@@ -47,7 +47,7 @@ fn report_of(fault: ScriptFault) -> &'static [u8]
 pub fn report<E: Sink>(errors: &mut E, fault: ScriptFault)
     requires { E.failures errors.old ≡ 0 }
     ensures { Reports (E.taken errors.old) (report_of fault)
-        (writing E.taken E.flushed E.failures E.rejections errors.old errors.new) }
+        (writer_view E.taken E.flushed E.failures E.rejections errors.old errors.new) }
 {
     if put(errors, report_of(fault)).is_ok() {
         let _ = errors.flush();
@@ -66,18 +66,18 @@ pub fn answer<C: LegalHistory, R: Source, W: Sink, E: Sink, A: Allocator + Copy>
     writer: &mut W,
     errors: &mut E,
 ) -> u8
-    requires empty { shown (C.seen core)
-        ≡ record { start = nothing; entries = []; limit = entries_between_seals } }
+    requires empty { core_state (C.seen core)
+        ≡ record { start = empty_start; entries = []; limit = entries_between_seals } }
     requires fresh { (R.given reader.old ≡ []) × (W.taken writer.old ≡ [])
         × (R.ended reader.old ≡ false) }
     requires working { (R.failures reader.old ≡ 0) × (W.failures writer.old ≡ 0)
         × (E.failures errors.old ≡ 0) }
     ensures ends { EndsWith answers (record {
-      reader = reading R.given R.earlier R.failures R.reads R.ended reader.old reader.new;
-      writer = writing W.taken W.flushed W.failures W.rejections writer.old writer.new;
+      reader = reader_view R.given R.earlier R.failures R.reads R.ended reader.old reader.new;
+      writer = writer_view W.taken W.flushed W.failures W.rejections writer.old writer.new;
       limit = 2 ^ 40;
     }) (E.taken errors.old)
-        (writing E.taken E.flushed E.failures E.rejections errors.old errors.new) result }
+        (writer_view E.taken E.flushed E.failures E.rejections errors.old errors.new) result }
     ensures calls { R.reads reader.new ≤ R.reads reader.old + 2 ^ 40 }
 {
     match script(core, alloc, reader, writer) {

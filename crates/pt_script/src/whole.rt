@@ -1,14 +1,14 @@
 ghost use Rattle.std.specs.Prelude.{◌≡◌, ◌≤◌, ◌<◌, ◌+◌, ◌^◌, ◌++◌, [], length, true, false, OnOk};
 ghost use Rattle.std.specs.Prelude.{OnErr, IfOk, IfErr};
-ghost use Rattle.pt_model.specs.Starts.{nothing};
-ghost use Rattle.pt_grammar.specs.Lines.{to_come, IsBegun};
-ghost use Rattle.pt_legal.specs.Cores.{shown};
-ghost use Rattle.pt_engine.specs.Scripts.{begun, entries_between_seals};
-ghost use Rattle.pt_engine.specs.Engines.{known_by};
-ghost use Rattle.pt_script.specs.Tellings.{AreTold, answers};
-ghost use Rattle.pt_script.specs.Texts.{writing};
-ghost use Rattle.pt_script.specs.Stops.{IsStopped, IsEnd};
-ghost use Rattle.pt_script.specs.Ends.{IsScriptText, BeginsScriptText, IsFaultOf, reading};
+ghost use Rattle.pt_model.specs.Starts.{empty_start};
+ghost use Rattle.pt_grammar.specs.Lines.{lines_to_come, HasNoWholeLine};
+ghost use Rattle.pt_legal.specs.Cores.{core_state};
+ghost use Rattle.pt_engine.specs.Scripts.{empty_script, entries_between_seals};
+ghost use Rattle.pt_engine.specs.Engines.{as_script};
+ghost use Rattle.pt_script.specs.Tellings.{TellsBetween, answers};
+ghost use Rattle.pt_script.specs.Texts.{writer_view};
+ghost use Rattle.pt_script.specs.Stops.{StopsAtFault, IsEnd};
+ghost use Rattle.pt_script.specs.Ends.{IsScriptText, BeginsScriptText, IsFaultOf, reader_view};
 
 use crate::telling::{tell_all, tell_last};
 use crate::writing::deliver;
@@ -19,7 +19,7 @@ use pt_lines::Cutter;
 use std::alloc::Allocator;
 
 /// The most reads of one input, including the one that reports its end.  [profile]
-pub const MOST_READS: u64 = 1 << 40;
+pub const MAX_DEVICE_READS: u64 = 1 << 40;
 
 /// The most bytes that are read at once.
 const PIECE: usize = 4096;
@@ -54,20 +54,23 @@ fn take_in<C: LegalHistory, W: Sink, A: Allocator + Copy>(
 ) -> Result<(), ScriptFault>
     requires working { W.failures writer.old ≡ 0 }
     requires out { W.flushed writer.old ≡ W.taken writer.old }
-    requires few { length engine.old.seen
-        + length (to_come (record cutter.old { rest = cutter.old.rest ++ piece.now }) []) < 2 ^ 53 }
-    ensures ok { OnOk result (AreTold answers
-        (record cutter.old { rest = cutter.old.rest ++ piece.now }) (known_by engine.old)
-        (W.taken writer.old) cutter.new (known_by engine.new)
+    requires within { length engine.old.seen
+        + length (lines_to_come (record cutter.old {
+          rest = cutter.old.rest
+              ++ piece.now;
+        }) []) < 2 ^ 53 }
+    ensures ok { OnOk result (TellsBetween answers
+        (record cutter.old { rest = cutter.old.rest ++ piece.now }) (as_script engine.old)
+        (W.taken writer.old) cutter.new (as_script engine.new)
         (W.taken writer.new)) }
-    ensures begun { OnOk result (IsBegun cutter.new) }
+    ensures begun { OnOk result (HasNoWholeLine cutter.new) }
     ensures wrote { OnOk result
         ((W.failures writer.new ≡ 0) × (W.rejections writer.new ≡ W.rejections writer.old)) }
     ensures out { OnOk result (W.flushed writer.new ≡ W.taken writer.new) }
-    ensures err { IfErr result (λ fault. IsStopped answers fault
+    ensures err { IfErr result (λ fault. StopsAtFault answers fault
         (record cutter.old { rest = cutter.old.rest ++ piece.now })
-        (known_by engine.old) (W.taken writer.old)
-        (writing W.taken W.flushed W.failures W.rejections writer.old writer.new)) }
+        (as_script engine.old) (W.taken writer.old)
+        (writer_view W.taken W.flushed W.failures W.rejections writer.old writer.new)) }
 {
     let Ok(()) = cutter.feed(piece) else {
         return Err(ScriptFault::Memory);
@@ -87,17 +90,17 @@ fn finish<C: LegalHistory, W: Sink, A: Allocator + Copy>(
 ) -> Result<ScriptEnd, ScriptFault>
     requires working { W.failures writer.old ≡ 0 }
     requires out { W.flushed writer.old ≡ W.taken writer.old }
-    requires begun { IsBegun cutter }
-    requires few { length engine.old.seen + length (to_come cutter []) < 2 ^ 53 }
+    requires begun { HasNoWholeLine cutter }
+    requires within { length engine.old.seen + length (lines_to_come cutter []) < 2 ^ 53 }
     ensures ok { IfOk result (λ end. IsEnd answers
-        cutter (known_by engine.old) (W.taken writer.old) (W.taken writer.new)
+        cutter (as_script engine.old) (W.taken writer.old) (W.taken writer.new)
         end.lines end.entries) }
     ensures wrote { OnOk result
         ((W.failures writer.new ≡ 0) × (W.rejections writer.new ≡ W.rejections writer.old)) }
     ensures out { OnOk result (W.flushed writer.new ≡ W.taken writer.new) }
-    ensures err { IfErr result (λ fault. IsStopped answers fault cutter (known_by engine.old)
+    ensures err { IfErr result (λ fault. StopsAtFault answers fault cutter (as_script engine.old)
         (W.taken writer.old)
-        (writing W.taken W.flushed W.failures W.rejections writer.old writer.new)) }
+        (writer_view W.taken W.flushed W.failures W.rejections writer.old writer.new)) }
 {
     let mut out = Vec::new(alloc);
     tell_last(engine, cutter, &mut out)?;
@@ -116,22 +119,22 @@ fn run_within<C: LegalHistory, R: Source, W: Sink, A: Allocator + Copy>(
     reader: &mut R,
     writer: &mut W,
 ) -> Result<ScriptEnd, ScriptFault>
-    requires new { known_by engine.old ≡ begun }
+    requires new { as_script engine.old ≡ empty_script }
     requires fresh { (R.given reader.old ≡ []) × (W.taken writer.old ≡ [])
         × (R.ended reader.old ≡ false) }
     requires working { (R.failures reader.old ≡ 0) × (W.failures writer.old ≡ 0) }
-    requires few { reads ≤ 2 ^ 40 }
+    requires within { reads ≤ 2 ^ 40 }
     ensures ok { IfOk result (λ end. IsScriptText answers
         (R.given reader.new) (W.taken writer.new) end.lines end.entries) }
     ensures ended { OnOk result (R.ended reader.new ≡ true) }
     ensures out { OnOk result (W.flushed writer.new ≡ W.taken writer.new) }
     ensures working { OnOk result ((R.failures reader.new ≡ 0) × (W.failures writer.new ≡ 0)) }
     ensures calls { R.reads reader.new ≤ R.reads reader.old + reads }
-    ensures err { OnErr result
+    ensures prefix { OnErr result
         (BeginsScriptText answers (R.given reader.new) (W.taken writer.new)) }
-    ensures why { IfErr result (λ fault. IsFaultOf answers (record {
-      reader = reading R.given R.earlier R.failures R.reads R.ended reader.old reader.new;
-      writer = writing W.taken W.flushed W.failures W.rejections writer.old writer.new;
+    ensures err { IfErr result (λ fault. IsFaultOf answers (record {
+      reader = reader_view R.given R.earlier R.failures R.reads R.ended reader.old reader.new;
+      writer = writer_view W.taken W.flushed W.failures W.rejections writer.old writer.new;
       limit = reads;
     }) fault) }
 {
@@ -164,12 +167,12 @@ pub fn script_within<C: LegalHistory, R: Source, W: Sink, A: Allocator + Copy>(
     reader: &mut R,
     writer: &mut W,
 ) -> Result<ScriptEnd, ScriptFault>
-    requires empty { shown (C.seen core)
-        ≡ record { start = nothing; entries = []; limit = entries_between_seals } }
+    requires empty { core_state (C.seen core)
+        ≡ record { start = empty_start; entries = []; limit = entries_between_seals } }
     requires fresh { (R.given reader.old ≡ []) × (W.taken writer.old ≡ [])
         × (R.ended reader.old ≡ false) }
     requires working { (R.failures reader.old ≡ 0) × (W.failures writer.old ≡ 0) }
-    requires few { reads ≤ 2 ^ 40 }
+    requires within { reads ≤ 2 ^ 40 }
 
     // All is read, and exactly the text of it is written.
     ensures ok { IfOk result (λ end. IsScriptText answers
@@ -180,11 +183,11 @@ pub fn script_within<C: LegalHistory, R: Source, W: Sink, A: Allocator + Copy>(
     ensures calls { R.reads reader.new ≤ R.reads reader.old + reads }
 
     // After a fault, what is written begins such a text, and the fault says what stopped it.
-    ensures err { OnErr result
+    ensures prefix { OnErr result
         (BeginsScriptText answers (R.given reader.new) (W.taken writer.new)) }
-    ensures why { IfErr result (λ fault. IsFaultOf answers (record {
-      reader = reading R.given R.earlier R.failures R.reads R.ended reader.old reader.new;
-      writer = writing W.taken W.flushed W.failures W.rejections writer.old writer.new;
+    ensures err { IfErr result (λ fault. IsFaultOf answers (record {
+      reader = reader_view R.given R.earlier R.failures R.reads R.ended reader.old reader.new;
+      writer = writer_view W.taken W.flushed W.failures W.rejections writer.old writer.new;
       limit = reads;
     }) fault) }
 {
@@ -199,8 +202,8 @@ pub fn script<C: LegalHistory, R: Source, W: Sink, A: Allocator + Copy>(
     reader: &mut R,
     writer: &mut W,
 ) -> Result<ScriptEnd, ScriptFault>
-    requires empty { shown (C.seen core)
-        ≡ record { start = nothing; entries = []; limit = entries_between_seals } }
+    requires empty { core_state (C.seen core)
+        ≡ record { start = empty_start; entries = []; limit = entries_between_seals } }
     requires fresh { (R.given reader.old ≡ []) × (W.taken writer.old ≡ [])
         × (R.ended reader.old ≡ false) }
     requires working { (R.failures reader.old ≡ 0) × (W.failures writer.old ≡ 0) }
@@ -214,13 +217,13 @@ pub fn script<C: LegalHistory, R: Source, W: Sink, A: Allocator + Copy>(
     ensures calls { R.reads reader.new ≤ R.reads reader.old + 2 ^ 40 }
 
     // After a fault, what is written begins such a text, and the fault says what stopped it.
-    ensures err { OnErr result
+    ensures prefix { OnErr result
         (BeginsScriptText answers (R.given reader.new) (W.taken writer.new)) }
-    ensures why { IfErr result (λ fault. IsFaultOf answers (record {
-      reader = reading R.given R.earlier R.failures R.reads R.ended reader.old reader.new;
-      writer = writing W.taken W.flushed W.failures W.rejections writer.old writer.new;
+    ensures err { IfErr result (λ fault. IsFaultOf answers (record {
+      reader = reader_view R.given R.earlier R.failures R.reads R.ended reader.old reader.new;
+      writer = writer_view W.taken W.flushed W.failures W.rejections writer.old writer.new;
       limit = 2 ^ 40;
     }) fault) }
 {
-    script_within(core, alloc, MOST_READS, reader, writer)
+    script_within(core, alloc, MAX_DEVICE_READS, reader, writer)
 }

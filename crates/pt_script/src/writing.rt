@@ -1,6 +1,6 @@
 ghost use Rattle.std.specs.Prelude.{◌≡◌, ◌<◌, ◌≤◌, ◌-◌, ◌++◌, length, take, OnOk, OnErr, IfOk};
 ghost use Rattle.std.specs.Prelude.{IfErr};
-ghost use Rattle.pt_script.specs.Texts.{BreaksOff, IsBroken, IsCutShort, writing};
+ghost use Rattle.pt_script.specs.Texts.{BreaksOff, IsBroken, IsCutShort, writer_view};
 
 use pt_engine::ScriptFault;
 use pt_io::Sink;
@@ -17,9 +17,9 @@ fn put_some<W: Sink>(writer: &mut W, bytes: &[u8]) -> Result<usize, ScriptFault>
     // A fault has a cause, and no byte is taken by the write that gives it.
     ensures cause { OnErr result
         (IsBroken (W.failures writer.new) (W.rejections writer.new - W.rejections writer.old)) }
-    ensures err { OnErr result (W.taken writer.new ≡ W.taken writer.old) }
+    ensures unchanged { OnErr result (W.taken writer.new ≡ W.taken writer.old) }
     ensures out { W.flushed writer.new ≡ W.flushed writer.old }
-    ensures why { IfErr result (λ fault. fault ≡ ScriptFault.Write) }
+    ensures err { IfErr result (λ fault. fault ≡ ScriptFault.Write) }
 {
     match writer.write(bytes) {
         Ok(0) => Err(ScriptFault::Write),
@@ -34,12 +34,12 @@ pub fn put<W: Sink>(writer: &mut W, bytes: &[u8]) -> Result<(), ScriptFault>
     ensures ok { OnOk result
         ((W.taken writer.new ≡ W.taken writer.old ++ bytes.now) × (W.failures writer.new ≡ 0)) }
     ensures accepted { OnOk result (W.rejections writer.new ≡ W.rejections writer.old) }
-    ensures err { OnErr result
+    ensures prefix { OnErr result
         (IsCutShort (W.taken writer.old) bytes.now (W.taken writer.new)) }
     ensures cause { OnErr result
         (IsBroken (W.failures writer.new) (W.rejections writer.new - W.rejections writer.old)) }
     ensures out { W.flushed writer.new ≡ W.flushed writer.old }
-    ensures why { IfErr result (λ fault. fault ≡ ScriptFault.Write) }
+    ensures err { IfErr result (λ fault. fault ≡ ScriptFault.Write) }
 {
     let mut rest = bytes;
     while !rest.is_empty() {
@@ -57,9 +57,9 @@ pub fn deliver<W: Sink>(writer: &mut W, bytes: &[u8]) -> Result<(), ScriptFault>
         ((W.taken writer.new ≡ W.taken writer.old ++ bytes.now) × (W.failures writer.new ≡ 0)) }
     ensures accepted { OnOk result (W.rejections writer.new ≡ W.rejections writer.old) }
     ensures out { OnOk result (W.flushed writer.new ≡ W.taken writer.new) }
-    ensures err { OnErr result (BreaksOff (W.taken writer.old) bytes.now
-        (writing W.taken W.flushed W.failures W.rejections writer.old writer.new)) }
-    ensures why { IfErr result (λ fault. fault ≡ ScriptFault.Write) }
+    ensures prefix { OnErr result (BreaksOff (W.taken writer.old) bytes.now
+        (writer_view W.taken W.flushed W.failures W.rejections writer.old writer.new)) }
+    ensures err { IfErr result (λ fault. fault ≡ ScriptFault.Write) }
 {
     if bytes.is_empty() {
         return Ok(());

@@ -5,12 +5,12 @@ use Rattle.std.proofs.Common.{append_assoc, append-nil, sym, ap, subst, refl, �
 use Rattle.std.proofs.Common.{length-append, length-drop, take_all, inl, inr}
 use Rattle.std.proofs.lemmas.List.{take-append-drop, take-append-le, drop-append-le}
 use Rattle.std.proofs.Math.Seq.{take-append_seam, drop-append_seam}
-use Rattle.pt_session.specs.Outputs.{IsBroken, IsCutShort, Output}
+use Rattle.pt_session.specs.Outputs.{IsBroken, IsPartlyTaken, OutputView}
 use Rattle.pt_serve.specs.Served.{IsReported, IsServiceBegun, closed_line, ready_line}
 
 -- the bytes by which a text grew, and those that remain
 pub begun : (old bytes text rest : List ℕ) → text ++ rest ≡ old ++ bytes
-    → length old ≤ length text → IsCutShort old bytes text
+    → length old ≤ length text → IsPartlyTaken old bytes text
 begun old bytes text rest joins grows = record {
   front = drop (length old) text;
   rest = rest;
@@ -44,9 +44,9 @@ pub grown : (old text new more : List ℕ) → new ≡ text ++ more → length o
 grown old text new more adds grows = omega (arith, ap length adds, length-append text more)
 
 -- the same with an equal text
-pub begun_same : (old bytes text new : List ℕ) → IsCutShort old bytes text → new ≡ text
-    → IsCutShort old bytes new
-begun_same old bytes text new b same = subst (IsCutShort old bytes) (sym same) b
+pub begun_same : (old bytes text new : List ℕ) → IsPartlyTaken old bytes text → new ≡ text
+    → IsPartlyTaken old bytes new
+begun_same old bytes text new b same = subst (IsPartlyTaken old bytes) (sym same) b
 
 -- a server that has written no line
 pub none_begun : (old : List ℕ) → IsServiceBegun old old
@@ -61,7 +61,7 @@ none_begun old = record {
 }
 
 -- a server that writes its first line
-pub ready_begun : (old text : List ℕ) → IsCutShort old ready_line text → IsServiceBegun old text
+pub ready_begun : (old text : List ℕ) → IsPartlyTaken old ready_line text → IsServiceBegun old text
 ready_begun old text b = record {
   outer = 0;
   begun = record {
@@ -74,7 +74,7 @@ ready_begun old text b = record {
 
 -- a server that writes its last line
 pub closed_begun : (old text : List ℕ) (outer : ℕ)
-    → IsCutShort (old ++ ready_line) (closed_line outer) text → IsServiceBegun old text
+    → IsPartlyTaken (old ++ ready_line) (closed_line outer) text → IsServiceBegun old text
 closed_begun old text n b = record {
   outer = n;
   begun = record {
@@ -91,9 +91,9 @@ on_err (Ok x) P p = tt
 on_err (Err e) P p = p
 
 -- a line is written and flushed, or the writer broke
-pub reported : {T E : Type 0} (F R : Type 0) (r : Result T E) (old line : List ℕ) (o : Output)
+pub reported : {T E : Type 0} (F R : Type 0) (r : Result T E) (old line : List ℕ) (o : OutputView)
     → OnOk r ((o.taken ≡ old ++ line) × (o.flushed ≡ o.taken) × F × R)
-    → IsCutShort old line o.taken → OnErr r (IsBroken o.failures o.rejections)
+    → IsPartlyTaken old line o.taken → OnErr r (IsBroken o.failures o.rejections)
     → IsReported old line o
 reported F R (Ok x) old line o told cut broke = inl (told.0, told.1 ∙ told.0)
 reported F R (Err e) old line o told cut broke = inr (cut, broke)

@@ -6,27 +6,29 @@ use Rattle.std.specs.declared.time.Duration.{Duration}
 use Rattle.std.specs.Duration.{as_nanos}
 use Rattle.pt_types.specs.declared.time.Clock.{Clock}
 use Rattle.pt_model.specs.Queries.{least_deadline}
-use Rattle.pt_legal.specs.Cores.{past}
-use Rattle.pt_hub.specs.Desks.{kept}
+use Rattle.pt_legal.specs.Cores.{history_of}
+use Rattle.pt_hub.specs.AnsweringCores.{hub_core}
 use Rattle.pt_hub.specs.Passes.{ClockView}
-use Rattle.pt_session.specs.Stays.{Found}
-use Rattle.pt_serve.specs.Clocks.{IsLookedAt, is_due, nothing, ticks}
+use Rattle.pt_session.specs.UnderLock.{FoundUnderLock}
+use Rattle.pt_serve.specs.Clocks.{IsLookedAt, is_deadline_due, nothing, ticks}
 
 -- the least deadline was read under the lock, and it was due
 pub due : (clock : Clock) (least : Option ℕ) (moment : ℕ)
-    → Found (λ hub. least ≡ least_deadline (past (kept hub.desk)) clock)
-    → is_due least moment ≡ true
-    → Found (λ hub. is_due (least_deadline (past (kept hub.desk)) clock) moment ≡ true)
+    → FoundUnderLock (λ hub. least ≡ least_deadline (history_of (hub_core hub.inner)) clock)
+    → is_deadline_due least moment ≡ true
+    → FoundUnderLock (λ hub. is_deadline_due (least_deadline (history_of
+    (hub_core hub.inner)) clock) moment ≡ true)
 due clock least moment found is = record {
   hub = found.hub;
   fits = found.fits;
-  so = ap (λ l. is_due l moment) (sym found.so) ∙ is;
+  so = ap (λ l. is_deadline_due l moment) (sym found.so) ∙ is;
 }
 
 -- a moment that was handed in, or refused
 pub looked : {T E : Type 0} (r : Result T E) (clock : Clock) (reading : Option Duration)
     (moment : ℕ) (old new : ClockView) → option_map as_nanos reading ≡ Some moment
-    → Found (λ hub. is_due (least_deadline (past (kept hub.desk)) clock) moment ≡ true)
+    → FoundUnderLock (λ hub. is_deadline_due (least_deadline (history_of
+    (hub_core hub.inner)) clock) moment ≡ true)
     → OnOk r (new
     ≡ record old { moments = old.moments ++ record { clock = clock; moment = moment } ∷ [] })
     → OnErr r (new ≡ old) → IsLookedAt clock reading old new

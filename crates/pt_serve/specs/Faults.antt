@@ -9,13 +9,13 @@ use Rattle.pt_serve.specs.declared.fault.ServeFault.TheVariants.{Memory}
 
 -- the exit status after a fault: 3 for that of a device, 4 if the history does not close, 5 for
 -- lack of memory  [profile]
-abbrev pub status_of : ServeFault → ℕ
-status_of Bind = 3
-status_of Accept = 3
-status_of Thread = 3
-status_of Write = 3
-status_of (Close fault) = 4
-status_of Memory = 5
+abbrev pub serve_status : ServeFault → ℕ
+serve_status Bind = 3
+serve_status Accept = 3
+serve_status Thread = 3
+serve_status Write = 3
+serve_status (Close fault) = 4
+serve_status Memory = 5
 
 -- the words that say why the history does not close  [profile]
 abbrev pub close_words : CloseFault → List ℕ
@@ -25,14 +25,14 @@ close_words (Forked place) = codes "Forked " ++ decimal place
 close_words CloseMemory = codes "Memory"
 
 -- the words that report a fault  [profile]
-abbrev pub words_of : ServeFault → List ℕ
-words_of Bind = codes "bind failed"
-words_of Accept = codes "accept failed"
-words_of Thread = codes "thread failed"
-words_of Write = codes "write failed"
-words_of (Close fault) = codes "close " ++ close_words fault
-words_of Memory = codes "out of memory"
+abbrev pub serve_words : ServeFault → List ℕ
+serve_words Bind = codes "bind failed"
+serve_words Accept = codes "accept failed"
+serve_words Thread = codes "thread failed"
+serve_words Write = codes "write failed"
+serve_words (Close fault) = codes "close " ++ close_words fault
+serve_words Memory = codes "out of memory"
 
 -- the line that reports a fault, with its newline
-abbrev pub report_of : ServeFault → List ℕ
-report_of fault = codes "ptserver: " ++ words_of fault ++ 10 ∷ []
+abbrev pub serve_report : ServeFault → List ℕ
+serve_report fault = codes "ptserver: " ++ serve_words fault ++ 10 ∷ []

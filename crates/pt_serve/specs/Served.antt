@@ -1,9 +1,9 @@
 -- Served: what a server writes.
 use Rattle.std.specs.Prelude.{ℕ, ◌≡◌, ◌⊎◌, ◌++◌, List, [], ◌∷◌, codes, decimal, Option, Some, None}
 use Rattle.std.specs.Prelude.{Result, Ok, Err}
-use Rattle.pt_session.specs.Outputs.{IsBroken, IsCutShort, Output}
+use Rattle.pt_session.specs.Outputs.{IsBroken, IsPartlyTaken, OutputView}
 use Rattle.pt_serve.specs.declared.fault.ServeFault.{ServeFault}
-use Rattle.pt_serve.specs.Faults.{report_of}
+use Rattle.pt_serve.specs.Faults.{serve_report}
 
 -- the line that says that connections are accepted  [profile]
 abbrev pub ready_line : List ℕ
@@ -16,14 +16,14 @@ closed_line outer = codes "closed " ++ decimal outer ++ 10 ∷ []
 -- a front of what a server writes for some number of events was taken after the old text
 pub record IsServiceBegun (old taken : List ℕ) : Type 0 where
   pub outer : ℕ
-  pub begun : IsCutShort old (ready_line ++ closed_line outer) taken
+  pub begun : IsPartlyTaken old (ready_line ++ closed_line outer) taken
 
 -- the line was written after the old text, and all is flushed; or the writer broke, and a first
 -- part of the line was taken
-abbrev pub IsReported : List ℕ → List ℕ → Output → Type 0
+abbrev pub IsReported : List ℕ → List ℕ → OutputView → Type 0
 IsReported old line o =
     ((o.taken ≡ old ++ line) × (o.flushed ≡ old ++ line))
-    ⊎ (IsCutShort old line o.taken × IsBroken o.failures o.rejections)
+    ⊎ (IsPartlyTaken old line o.taken × IsBroken o.failures o.rejections)
 
 -- the fault with which something ended, if it has one
 abbrev pub fault_in : {T : Type 0} → Result T ServeFault → Option ServeFault
@@ -32,7 +32,7 @@ fault_in (Err fault) = Some fault
 
 -- a writer of errors, before and after: the fault is reported, and without one nothing is written;
 -- `output` gives what is seen of it
-abbrev pub Tells : {E : Type 0} → (E → E → Output) → E → Option ServeFault → E → Type 0
-Tells output old None new = new ≡ old
-Tells output old (Some fault) new =
-    IsReported (output old old).taken (report_of fault) (output old new)
+abbrev pub ReportsFault : {E : Type 0} → (E → E → OutputView) → E → Option ServeFault → E → Type 0
+ReportsFault output old None new = new ≡ old
+ReportsFault output old (Some fault) new =
+    IsReported (output old old).taken (serve_report fault) (output old new)

@@ -3,7 +3,7 @@
 ghost use Rattle.std.specs.Prelude.{◌≡◌, ◌+◌, Some, option_map, IfSome};
 ghost use Rattle.std.specs.Duration.{as_nanos};
 ghost use Rattle.pt_types.specs.Times.{deadline_nanos};
-ghost use Rattle.pt_serve.specs.Clocks.{is_due, IsLookedAt};
+ghost use Rattle.pt_serve.specs.Clocks.{is_deadline_due, IsLookedAt};
 
 use pt_hub::ClockPass;
 use pt_legal::LegalHistory;
@@ -36,7 +36,7 @@ fn moment_of(reading: Option<Duration>) -> Option<Moment>
 
 // Returns whether a deadline is at or before a moment.  [XSH pthread_mutex_timedlock]
 fn is_due(deadline: Option<Deadline>, now: Moment) -> bool
-    ensures { result ≡ is_due (option_map deadline_nanos deadline) now }
+    ensures { result ≡ is_deadline_due (option_map deadline_nanos deadline) now }
 {
     match deadline {
         Some(deadline) => deadline.nanos() <= now.nanos(),

@@ -1,15 +1,15 @@
 //! The threads of a server.
 
 ghost use Rattle.std.specs.Prelude.{◌≡◌, ◌≢◌, Some};
-ghost use Rattle.pt_session.specs.Outputs.{output};
-ghost use Rattle.pt_serve.specs.Served.{Tells, fault_in};
+ghost use Rattle.pt_session.specs.Outputs.{output_view};
+ghost use Rattle.pt_serve.specs.Served.{ReportsFault, fault_in};
 
 use crate::clock::tick;
 use crate::fault::{HostFault, ServeFault, fault_of};
 use crate::polling::{Connections, PolledReader, PolledWriter};
 use crate::recording::{TraceFile, write_trace};
 use crate::remains::{Remain, Remains};
-use crate::told::{Told, ended_with, tell};
+use crate::server_end::{ServerEnd, ended_with, report_end};
 use pt_hub::ClockPass;
 use pt_io::{Counted, Sink};
 use pt_legal::LegalHistory;
@@ -60,8 +60,8 @@ impl<'a, C: LegalHistory + Send, L: Ledger + Send + Sync, R: Threads + Wait + Cl
     R,
 > {
     ghost use Rattle.std.specs.Prelude.{◌≡◌, ◌≢◌, Some};
-    ghost use Rattle.pt_session.specs.Outputs.{output};
-    ghost use Rattle.pt_serve.specs.Served.{Tells, fault_in};
+    ghost use Rattle.pt_session.specs.Outputs.{output_view};
+    ghost use Rattle.pt_serve.specs.Served.{ReportsFault, fault_in};
 
     // Serves one connection, and stores what its session leaves. The connection is closed as the
     // session ends or is refused.
@@ -125,39 +125,40 @@ impl<'a, C: LegalHistory + Send, L: Ledger + Send + Sync, R: Threads + Wait + Cl
     }
 
     // Does what `accept_in` does, and reports its fault at once: its sessions may still run.
-    fn accept_told<'s, Z, E: Sink + Drop>(
+    fn accept_and_report<'s, Z, E: Sink + Drop>(
         &'s self,
         scope: &Scope<'s, Z>,
         listener: UnixListener,
         errors: E,
-    ) -> Told<(), E>
+    ) -> ServerEnd<(), E>
         requires { E.failures errors ≡ 0 }
-        ensures why { fault_in result.end ≢ Some ServeFault.Write }
-        ensures told { Tells (output E.taken E.flushed E.failures E.rejections) errors
+        ensures err { fault_in result.end ≢ Some ServeFault.Write }
+        ensures fault { ReportsFault (output_view E.taken E.flushed E.failures E.rejections) errors
             (fault_in result.end) result.errors }
     {
         match self.accept_in(scope, listener) {
-            Ok(()) => tell(Ok(()), errors),
-            Err(fault) => tell(Err(fault_of(fault)), errors),
+            Ok(()) => report_end(Ok(()), errors),
+            Err(fault) => report_end(Err(fault_of(fault)), errors),
         }
     }
 
-    // Does what `accept_told` does, and waits for the sessions.
-    fn accept<E: Sink + Drop>(&self, listener: UnixListener, errors: E) -> Told<(), E>
+    // Does what `accept_and_report` does, and waits for the sessions.
+    fn accept<E: Sink + Drop>(&self, listener: UnixListener, errors: E) -> ServerEnd<(), E>
         requires { E.failures errors ≡ 0 }
-        ensures why { fault_in result.end ≢ Some ServeFault.Write }
-        ensures told { Tells (output E.taken E.flushed E.failures E.rejections) errors
+        ensures err { fault_in result.end ≢ Some ServeFault.Write }
+        ensures fault { ReportsFault (output_view E.taken E.flushed E.failures E.rejections) errors
             (fault_in result.end) result.errors }
     {
         thread::scope(
             thread::scope_env(),
             self.rt,
-            move |scope| -> Told<(), E>
+            move |scope| -> ServerEnd<(), E>
                 requires { E.failures errors ≡ 0 }
-                ensures why { fault_in result.end ≢ Some ServeFault.Write }
-                ensures told { Tells (output E.taken E.flushed E.failures E.rejections) errors
+                ensures err { fault_in result.end ≢ Some ServeFault.Write }
+                ensures fault { ReportsFault (output_view E.taken E.flushed E.failures E.rejections)
+                    errors
                     (fault_in result.end) result.errors }
-            { self.accept_told(scope, listener, errors) },
+            { self.accept_and_report(scope, listener, errors) },
         )
     }
 
@@ -168,24 +169,25 @@ impl<'a, C: LegalHistory + Send, L: Ledger + Send + Sync, R: Threads + Wait + Cl
         listener: UnixListener,
         clock: ClockPass<L>,
         errors: E,
-    ) -> Told<ClockPass<L>, E>
+    ) -> ServerEnd<ClockPass<L>, E>
         requires { E.failures errors ≡ 0 }
-        ensures why { fault_in result.end ≢ Some ServeFault.Write }
-        ensures told { Tells (output E.taken E.flushed E.failures E.rejections) errors
+        ensures err { fault_in result.end ≢ Some ServeFault.Write }
+        ensures fault { ReportsFault (output_view E.taken E.flushed E.failures E.rejections) errors
             (fault_in result.end) result.errors }
     {
         thread::scope(
             thread::scope_env(),
             self.rt,
-            move |scope| -> Told<ClockPass<L>, E>
+            move |scope| -> ServerEnd<ClockPass<L>, E>
                 requires { E.failures errors ≡ 0 }
-                ensures why { fault_in result.end ≢ Some ServeFault.Write }
-                ensures told { Tells (output E.taken E.flushed E.failures E.rejections) errors
+                ensures err { fault_in result.end ≢ Some ServeFault.Write }
+                ensures fault { ReportsFault (output_view E.taken E.flushed E.failures E.rejections)
+                    errors
                     (fault_in result.end) result.errors }
             {
                 let ticks = move || tick(self.rt, self.shared, clock, self.retention);
                 let Ok(ticking) = scope.spawn(ticks) else {
-                    return tell(Err(ServeFault::Thread), errors);
+                    return report_end(Err(ServeFault::Thread), errors);
                 };
                 let served = self.accept(listener, errors);
                 self.shared.finish(self.rt);
@@ -200,10 +202,10 @@ impl<'a, C: LegalHistory + Send, L: Ledger + Send + Sync, R: Threads + Wait + Cl
         listener: UnixListener,
         clock: ClockPass<L>,
         errors: E,
-    ) -> Told<ClockPass<L>, E>
+    ) -> ServerEnd<ClockPass<L>, E>
         requires { E.failures errors ≡ 0 }
-        ensures why { fault_in result.end ≢ Some ServeFault.Write }
-        ensures told { Tells (output E.taken E.flushed E.failures E.rejections) errors
+        ensures err { fault_in result.end ≢ Some ServeFault.Write }
+        ensures fault { ReportsFault (output_view E.taken E.flushed E.failures E.rejections) errors
             (fault_in result.end) result.errors }
     {
         match self.mode {
@@ -220,10 +222,10 @@ impl<'a, C: LegalHistory + Send, L: Ledger + Send + Sync, R: Threads + Wait + Cl
         clock: ClockPass<L>,
         errors: E,
         trace: Option<TraceFile<'t, F, E>>,
-    ) -> Told<ClockPass<L>, E>
+    ) -> ServerEnd<ClockPass<L>, E>
         requires { E.failures errors ≡ 0 }
-        ensures why { fault_in result.end ≢ Some ServeFault.Write }
-        ensures told { Tells (output E.taken E.flushed E.failures E.rejections) errors
+        ensures err { fault_in result.end ≢ Some ServeFault.Write }
+        ensures fault { ReportsFault (output_view E.taken E.flushed E.failures E.rejections) errors
             (fault_in result.end) result.errors }
     {
         let Some(trace) = trace else {
@@ -232,10 +234,11 @@ impl<'a, C: LegalHistory + Send, L: Ledger + Send + Sync, R: Threads + Wait + Cl
         thread::scope(
             thread::scope_env(),
             self.rt,
-            move |scope| -> Told<ClockPass<L>, E>
+            move |scope| -> ServerEnd<ClockPass<L>, E>
                 requires { E.failures errors ≡ 0 }
-                ensures why { fault_in result.end ≢ Some ServeFault.Write }
-                ensures told { Tells (output E.taken E.flushed E.failures E.rejections) errors
+                ensures err { fault_in result.end ≢ Some ServeFault.Write }
+                ensures fault { ReportsFault (output_view E.taken E.flushed E.failures E.rejections)
+                    errors
                     (fault_in result.end) result.errors }
             {
                 match scope.spawn(move || write_trace(self.rt, self.shared, trace)) {
@@ -245,7 +248,7 @@ impl<'a, C: LegalHistory + Send, L: Ledger + Send + Sync, R: Threads + Wait + Cl
                         writing.join(self.rt).write(self.rt, self.shared);
                         served
                     }
-                    Err(_) => tell(Err(ServeFault::Thread), errors),
+                    Err(_) => report_end(Err(ServeFault::Thread), errors),
                 }
             },
         )
@@ -271,10 +274,10 @@ pub fn host<
     sessions: u64,
     errors: E,
     trace: Option<TraceFile<'t, F, E>>,
-) -> Told<Remains<L>, E>
+) -> ServerEnd<Remains<L>, E>
     requires { E.failures errors ≡ 0 }
-    ensures why { fault_in result.end ≢ Some ServeFault.Write }
-    ensures told { Tells (output E.taken E.flushed E.failures E.rejections) errors
+    ensures err { fault_in result.end ≢ Some ServeFault.Write }
+    ensures fault { ReportsFault (output_view E.taken E.flushed E.failures E.rejections) errors
         (fault_in result.end) result.errors }
 {
     // What is retained is needed only to close the history.
@@ -293,18 +296,18 @@ pub fn host<
         connections: Connections::new(),
         remains: Mutex::new(Remains::new(alloc)),
     };
-    let Told { end, errors } = server.accept_recorded(listener, clock, errors, trace);
+    let ServerEnd { end, errors } = server.accept_recorded(listener, clock, errors, trace);
     match end {
         Ok(clock) => {
             let Server { remains, .. } = server;
             let mut remains = remains.into_inner();
             remains.add_clock(clock);
-            Told {
+            ServerEnd {
                 end: Ok(remains),
                 errors,
             }
         }
-        Err(fault) => Told {
+        Err(fault) => ServerEnd {
             end: Err(fault),
             errors,
         },

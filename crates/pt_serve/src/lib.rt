@@ -13,10 +13,10 @@ mod polling;
 mod recording;
 mod remains;
 mod server;
-mod told;
+mod server_end;
 
 pub use fault::ServeFault;
 pub use output::status_of;
 pub use recording::TraceFile;
 pub use server::serve;
-pub use told::Told;
+pub use server_end::ServerEnd;

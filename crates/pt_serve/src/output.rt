@@ -2,9 +2,9 @@
 
 ghost use Rattle.std.specs.Prelude.{◌≡◌, ◌<◌, ◌≤◌, ◌+◌, ◌-◌, ◌++◌, length, take, true, false};
 ghost use Rattle.std.specs.Prelude.{IsTrue, OnOk, OnErr, IfErr};
-ghost use Rattle.pt_session.specs.Outputs.{IsBroken, IsCutShort, output};
+ghost use Rattle.pt_session.specs.Outputs.{IsBroken, IsPartlyTaken, output_view};
 ghost use Rattle.pt_serve.specs.Served.{IsReported, closed_line, ready_line};
-ghost use Rattle.pt_serve.specs.Faults.{close_words, report_of, status_of, words_of};
+ghost use Rattle.pt_serve.specs.Faults.{close_words, serve_report, serve_status, serve_words};
 
 use crate::fault::ServeFault;
 use arrayvec::ArrayVec;
@@ -23,7 +23,7 @@ const MEMORY: u8 = 5;
 
 /// Returns the exit status of a program that serves and ends with this fault.
 pub fn status_of(fault: ServeFault) -> u8
-    ensures { result ≡ status_of fault }
+    ensures { result ≡ serve_status fault }
 {
     match fault {
         ServeFault::Bind | ServeFault::Accept | ServeFault::Thread | ServeFault::Write => DEVICE,
@@ -54,7 +54,7 @@ fn put<W: Sink>(writer: &mut W, bytes: &[u8]) -> bool
     requires { W.failures writer.old ≡ 0 }
     ensures ok { IsTrue result → (W.taken writer.new ≡ W.taken writer.old ++ bytes.now)
         × (W.failures writer.new ≡ 0) × (W.rejections writer.new ≡ W.rejections writer.old) }
-    ensures begun { IsCutShort (W.taken writer.old) bytes.now (W.taken writer.new) }
+    ensures begun { IsPartlyTaken (W.taken writer.old) bytes.now (W.taken writer.new) }
     ensures cause { result ≡ false
         → IsBroken (W.failures writer.new) (W.rejections writer.new - W.rejections writer.old) }
 {
@@ -75,10 +75,10 @@ pub fn say<W: Sink>(out: &mut W, line: &[u8]) -> Result<(), ServeFault>
     ensures ok { OnOk result ((W.taken out.new ≡ W.taken out.old ++ line.now)
         × (W.flushed out.new ≡ W.taken out.new) × (W.failures out.new ≡ 0)
         × (W.rejections out.new ≡ W.rejections out.old)) }
-    ensures begun { IsCutShort (W.taken out.old) line.now (W.taken out.new) }
+    ensures begun { IsPartlyTaken (W.taken out.old) line.now (W.taken out.new) }
     ensures cause { OnErr result
         (IsBroken (W.failures out.new) (W.rejections out.new - W.rejections out.old)) }
-    ensures why { IfErr result (λ fault. fault ≡ ServeFault.Write) }
+    ensures err { IfErr result (λ fault. fault ≡ ServeFault.Write) }
 {
     if !put(out, line) {
         return Err(ServeFault::Write);
@@ -95,10 +95,10 @@ pub fn say_ready<W: Sink>(out: &mut W) -> Result<(), ServeFault>
     ensures ok { OnOk result ((W.taken out.new ≡ W.taken out.old ++ ready_line)
         × (W.flushed out.new ≡ W.taken out.new) × (W.failures out.new ≡ 0)
         × (W.rejections out.new ≡ W.rejections out.old)) }
-    ensures begun { IsCutShort (W.taken out.old) ready_line (W.taken out.new) }
+    ensures begun { IsPartlyTaken (W.taken out.old) ready_line (W.taken out.new) }
     ensures cause { OnErr result
         (IsBroken (W.failures out.new) (W.rejections out.new - W.rejections out.old)) }
-    ensures why { IfErr result (λ fault. fault ≡ ServeFault.Write) }
+    ensures err { IfErr result (λ fault. fault ≡ ServeFault.Write) }
 {
     say(out, b"ready\n")
 }
@@ -109,10 +109,10 @@ pub fn say_closed<W: Sink>(out: &mut W, outer: u64) -> Result<(), ServeFault>
     ensures ok { OnOk result ((W.taken out.new ≡ W.taken out.old ++ closed_line outer)
         × (W.flushed out.new ≡ W.taken out.new) × (W.failures out.new ≡ 0)
         × (W.rejections out.new ≡ W.rejections out.old)) }
-    ensures begun { IsCutShort (W.taken out.old) (closed_line outer) (W.taken out.new) }
+    ensures begun { IsPartlyTaken (W.taken out.old) (closed_line outer) (W.taken out.new) }
     ensures cause { OnErr result
         (IsBroken (W.failures out.new) (W.rejections out.new - W.rejections out.old)) }
-    ensures why { IfErr result (λ fault. fault ≡ ServeFault.Write) }
+    ensures err { IfErr result (λ fault. fault ≡ ServeFault.Write) }
 {
     let mut line: ArrayVec<u8, 32> = ArrayVec::new();
     line.try_extend_from_slice(b"closed ").unwrap();
@@ -129,7 +129,7 @@ const WORDS: usize = 80;
 // Returns the words that say why the history does not close.
 fn close_words(fault: CloseFault) -> ArrayVec<u8, WORDS>
     ensures words { result.items ≡ close_words fault }
-    ensures short { length result.items ≤ 70 }
+    ensures within { length result.items ≤ 70 }
 {
     let mut words = ArrayVec::new();
     let mut digits = Buffer::new();
@@ -157,8 +157,8 @@ fn close_words(fault: CloseFault) -> ArrayVec<u8, WORDS>
 
 // Returns the words that report a fault.
 fn words_of(fault: ServeFault) -> ArrayVec<u8, WORDS>
-    ensures words { result.items ≡ words_of fault }
-    ensures short { length result.items ≤ 76 }
+    ensures words { result.items ≡ serve_words fault }
+    ensures within { length result.items ≤ 76 }
 {
     let mut words = ArrayVec::new();
     let text: &[u8] = match fault {
@@ -180,7 +180,7 @@ fn words_of(fault: ServeFault) -> ArrayVec<u8, WORDS>
 
 // Returns the line that reports a fault.
 fn report_of(fault: ServeFault) -> ArrayVec<u8, 96>
-    ensures { result.items ≡ report_of fault }
+    ensures { result.items ≡ serve_report fault }
 {
     let mut line = ArrayVec::new();
     line.try_extend_from_slice(b"ptserver: ").unwrap();
@@ -194,8 +194,8 @@ fn report_of(fault: ServeFault) -> ArrayVec<u8, 96>
 /// anywhere.
 pub fn report<W: Sink>(errors: &mut W, fault: ServeFault)
     requires { W.failures errors.old ≡ 0 }
-    ensures { IsReported (W.taken errors.old) (report_of fault)
-        (output W.taken W.flushed W.failures W.rejections errors.old errors.new) }
+    ensures { IsReported (W.taken errors.old) (serve_report fault)
+        (output_view W.taken W.flushed W.failures W.rejections errors.old errors.new) }
 {
     let _ = say(errors, report_of(fault).as_slice());
 }

@@ -11,7 +11,7 @@
 ghost use Rattle.std.specs.Prelude.{◌≡◌, IfSome};
 ghost use Rattle.std.specs.Io.{ReadsAtMost, WritesAtMost};
 
-use pt_session::Patience;
+use pt_session::SpinBudget;
 use std::io::{ErrorKind, Read, Write};
 use std::net::{Shutdown, TcpStream};
 use std::sync::atomic::{AtomicU64, Ordering};
@@ -19,14 +19,14 @@ use std::{io, thread};
 
 /// The number of times a read polls the socket before it sleeps. Other threads may run in between.
 /// [profile]
-const MOST_POLLS: u32 = 40;
+const MAX_POLLS: u32 = 40;
 
 /// The number of times a write is retried if it finds the socket polled.  [profile]
-const MOST_TRIES: u32 = 64;
+const MAX_TRIES: u32 = 64;
 
 /// The most connections for which sockets are polled. If there are more, none is polled, as they
 /// may keep all processors busy, and lines are taken out of a socket as they are read.  [profile]
-const MOST_POLLED: u64 = 16;
+const MAX_POLLED: u64 = 16;
 
 /// The most bytes that are taken out of a socket at once after its session has ended.
 const REST: usize = 256;
@@ -55,8 +55,8 @@ impl Connections {
     }
 
     // Returns whether there are few enough to be polled.
-    fn are_few(&self) -> bool {
-        self.count.load(Ordering::Relaxed) <= MOST_POLLED
+    fn may_be_polled(&self) -> bool {
+        self.count.load(Ordering::Relaxed) <= MAX_POLLED
     }
 }
 
@@ -65,7 +65,7 @@ impl Connections {
 pub(crate) struct PolledReader<'a> {
     stream: &'a TcpStream,
     connections: &'a Connections,
-    patience: Patience,
+    patience: SpinBudget,
     /// Whether the socket was made not to block, as it is while it is polled.
     is_polled: bool,
     /// The number of bytes that were read and are still in the socket.
@@ -77,7 +77,7 @@ impl<'a> PolledReader<'a> {
         PolledReader {
             stream,
             connections,
-            patience: Patience::new(),
+            patience: SpinBudget::new(),
             is_polled: false,
             seen: 0,
         }
@@ -86,8 +86,8 @@ impl<'a> PolledReader<'a> {
     // Takes out of the socket the bytes that were already read. Each read takes at least one.
     fn take_seen(&mut self, buf: &mut [u8]) -> io::Result<()> {
         for _ in 0..self.seen {
-            let most = self.seen.min(buf.len());
-            let taken = self.stream.read(&mut buf[..most])?;
+            let limit = self.seen.min(buf.len());
+            let taken = self.stream.read(&mut buf[..limit])?;
             self.seen = self.seen.saturating_sub(taken);
             if self.seen == 0 {
                 break;
@@ -110,7 +110,7 @@ impl<'a> PolledReader<'a> {
     fn poll(&self, buf: &mut [u8]) -> Option<io::Result<usize>>
         ensures { IfSome result (λ found. ReadsAtMost found buf.new) }
     {
-        for _ in 0..MOST_POLLS {
+        for _ in 0..MAX_POLLS {
             match self.stream.peek(buf) {
                 Err(error) if error.kind() == ErrorKind::WouldBlock => thread::yield_now(),
                 found => return Some(found),
@@ -146,7 +146,7 @@ impl<'a> PolledReader<'a> {
 impl<'a> Read for PolledReader<'a> {
     fn read(&mut self, buf: &mut [u8]) -> io::Result<usize> {
         self.take_seen(buf)?;
-        if !self.connections.are_few() {
+        if !self.connections.may_be_polled() {
             self.set_polled(false)?;
             return self.stream.read(buf);
         }
@@ -180,7 +180,7 @@ impl<'a> PolledWriter<'a> {
 
 impl<'a> Write for PolledWriter<'a> {
     fn write(&mut self, buf: &[u8]) -> io::Result<usize> {
-        for _ in 0..MOST_TRIES {
+        for _ in 0..MAX_TRIES {
             match self.stream.write(buf) {
                 // From now on, a read that polls this socket sleeps instead.
                 Err(error) if error.kind() == ErrorKind::WouldBlock => {

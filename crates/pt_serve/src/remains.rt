@@ -78,7 +78,7 @@ impl<L: Ledger> Remains<L> {
     pub fn close<C: LegalHistory>(self, hub: Hub<C, L>) -> Result<Closed, ServeFault>
         ensures ok { IfOk result (λ closed. (self.is_short ≡ false)
             × (closed.outer ≡ events_found self.lefts.items self.clocks.items)) }
-        ensures why { IfErr result (λ fault. fault ≢ ServeFault.Write) }
+        ensures err { IfErr result (λ fault. fault ≢ ServeFault.Write) }
     {
         if self.is_short {
             return Err(ServeFault::Memory);

@@ -1,14 +1,15 @@
 ghost use Rattle.std.specs.Prelude.{◌≡◌, ◌≢◌, ◌^◌, ◌-◌, ◌++◌, [], Some, OnOk, OnErr, IfOk, IfErr};
-ghost use Rattle.pt_legal.specs.Cores.{IsEmpty, shown};
-ghost use Rattle.pt_session.specs.Outputs.{IsBroken, output};
-ghost use Rattle.pt_serve.specs.Served.{IsServiceBegun, Tells, closed_line, fault_in, ready_line};
+ghost use Rattle.pt_legal.specs.Cores.{IsEmpty, core_state};
+ghost use Rattle.pt_session.specs.Outputs.{IsBroken, output_view};
+ghost use Rattle.pt_serve.specs.Served.{IsServiceBegun, ReportsFault, closed_line, fault_in};
+ghost use Rattle.pt_serve.specs.Served.{ready_line};
 
 use crate::fault::ServeFault;
 use crate::host::host;
 use crate::output::{say_closed, say_ready};
 use crate::recording::TraceFile;
-use crate::told::{Told, tell};
-use pt_bells::Peers;
+use crate::server_end::{ServerEnd, report_end};
+use pt_eventcount::Peers;
 use pt_hub::{ClockPass, Closed, Hub};
 use pt_io::Sink;
 use pt_legal::LegalHistory;
@@ -46,13 +47,13 @@ fn serve_ready<
     sessions: u64,
     errors: E,
     trace: Option<TraceFile<'t, F, E>>,
-) -> Told<Closed, E>
-    requires empty { IsEmpty (shown (C.seen core)) }
+) -> ServerEnd<Closed, E>
+    requires empty { IsEmpty (core_state (C.seen core)) }
     requires name { (blank.name ≡ L.name) × (blank.parts ≡ L.parts) }
     requires parts { blank.parts ≡ 2 ^ 63 }
     requires errors { E.failures errors ≡ 0 }
-    ensures why { fault_in result.end ≢ Some ServeFault.Write }
-    ensures told { Tells (output E.taken E.flushed E.failures E.rejections) errors
+    ensures err { fault_in result.end ≢ Some ServeFault.Write }
+    ensures fault { ReportsFault (output_view E.taken E.flushed E.failures E.rejections) errors
         (fault_in result.end) result.errors }
 {
     // A server without end never closes its hub, so nobody reads what receipts have seen.
@@ -60,12 +61,12 @@ fn serve_ready<
     let (hub, clock): (Hub<C, L>, ClockPass<L>) = Hub::new(core, alloc, heap, blank);
     let recorder = trace.as_ref().map(|_| Recorder::new(alloc));
     let shared = Shared::with_peers(hub, peers, recorder);
-    let Told { end, errors } = host(
+    let ServerEnd { end, errors } = host(
         rt, alloc, listener, &shared, clock, mode, sessions, errors, trace,
     );
     match end {
-        Ok(remains) => tell(remains.close(shared.into_hub()), errors),
-        Err(fault) => Told {
+        Ok(remains) => report_end(remains.close(shared.into_hub()), errors),
+        Err(fault) => ServerEnd {
             end: Err(fault),
             errors,
         },
@@ -122,8 +123,8 @@ pub fn serve<
     out: &mut W,
     errors: E,
     trace: Option<TraceFile<'t, F, E>>,
-) -> Told<Closed, E>
-    requires empty { IsEmpty (shown (C.seen core)) }
+) -> ServerEnd<Closed, E>
+    requires empty { IsEmpty (core_state (C.seen core)) }
     requires output { W.failures out.old ≡ 0 }
     requires errors { E.failures errors ≡ 0 }
 
@@ -135,39 +136,39 @@ pub fn serve<
 
     // After a fault, what is written begins such a text. `Write` is returned only if the writer
     // broke.
-    ensures err { OnErr result.end (IsServiceBegun (W.taken out.old) (W.taken out.new)) }
-    ensures why { IfErr result.end (λ fault. fault ≡ ServeFault.Write
+    ensures unchanged { OnErr result.end (IsServiceBegun (W.taken out.old) (W.taken out.new)) }
+    ensures err { IfErr result.end (λ fault. fault ≡ ServeFault.Write
         → IsBroken (W.failures out.new) (W.rejections out.new - W.rejections out.old)) }
 
     // The fault is reported, in one line. Without one nothing is.
-    ensures told { Tells (output E.taken E.flushed E.failures E.rejections) errors
+    ensures fault { ReportsFault (output_view E.taken E.flushed E.failures E.rejections) errors
         (fault_in result.end) result.errors }
 {
     let (listener, peers) = match listen(rt, alloc, path) {
         Ok(listening) => listening,
-        Err(fault) => return tell(Err(fault), errors),
+        Err(fault) => return report_end(Err(fault), errors),
     };
     if let Err(fault) = say_ready(out) {
-        return tell(Err(fault), errors);
+        return report_end(Err(fault), errors);
     }
     let blank = Blank::new(SHARES);
-    let Told { end, errors } = serve_ready::<C, Brand, R, E, F>(
+    let ServerEnd { end, errors } = serve_ready::<C, Brand, R, E, F>(
         rt, alloc, core, blank, listener, peers, mode, sessions, errors, trace,
     );
     let closed = match end {
         Ok(closed) => closed,
         Err(fault) => {
-            return Told {
+            return ServerEnd {
                 end: Err(fault),
                 errors,
             };
         }
     };
     match say_closed(out, closed.outer) {
-        Ok(()) => Told {
+        Ok(()) => ServerEnd {
             end: Ok(closed),
             errors,
         },
-        Err(fault) => tell(Err(fault), errors),
+        Err(fault) => report_end(Err(fault), errors),
     }
 }

@@ -21,7 +21,7 @@ const DIFFERS: u8 = 6;
 const NO_TRACE: u8 = 7;
 
 // A trace has fewer bytes than this.
-const MOST_BYTES: usize = 1 << 53;
+const MAX_BYTES: usize = 1 << 53;
 
 // The number of traces that agree, that differ, and that have a row that should be an answer.
 #[derive(Clone, Copy)]
@@ -131,7 +131,7 @@ fn check_file(
 ) -> Result<(), u8> {
     let name = file.unwrap_or("-");
     match read_trace(rt, file) {
-        Ok(trace) if trace.len() < MOST_BYTES => {
+        Ok(trace) if trace.len() < MAX_BYTES => {
             check_trace(rt, name, &trace, takes_late, totals)
         }
         Ok(_) => Err(end_with(rt, ScriptFault::Read)),

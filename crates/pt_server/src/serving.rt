@@ -9,7 +9,7 @@ use pt_core::Core;
 use pt_hub::Closed;
 use pt_io::Counted;
 use pt_script::ENTRIES_BETWEEN_SEALS;
-use pt_serve::{ServeFault, Told, TraceFile, serve};
+use pt_serve::{ServeFault, ServerEnd, TraceFile, serve};
 use pt_session::ClockMode;
 use std::fs::File;
 use std::io;
@@ -59,7 +59,7 @@ fn serve_to<R: Files + Net + Threads + Wait + Clock + Sync>(
         None => None,
     };
     let mut out = Counted::new(io::writer(host));
-    let Told { end, errors: _ } = serve(
+    let ServerEnd { end, errors: _ } = serve(
         rt,
         host.alloc(),
         core,

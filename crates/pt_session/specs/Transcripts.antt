@@ -35,10 +35,10 @@ hello_by (Ok (Hello p), Some (Outcome x)) = p ∷ []
 hello_by _ = []
 
 -- a call with its answer, or none if it is open, if the call was accepted  [profile]
-abbrev pub asked_by : Exchange → List (Call × Option Answer)
-asked_by (Ok (Ask call), Some (Outcome x)) = (call, Some x) ∷ []
-asked_by (Ok (Ask call), None) = (call, None) ∷ []
-asked_by _ = []
+abbrev pub call_by : Exchange → List (Call × Option Answer)
+call_by (Ok (Ask call), Some (Outcome x)) = (call, Some x) ∷ []
+call_by (Ok (Ask call), None) = (call, None) ∷ []
+call_by _ = []
 
 -- a moment with its clock, if it was accepted  [profile]
 abbrev pub moment_by : Exchange → List Reported
@@ -49,20 +49,20 @@ moment_by _ = []
 abbrev pub hellos_in : List Exchange → List ℕ
 hellos_in xs = flat_map hello_by xs
 
-abbrev pub asked_in : List Exchange → List (Call × Option Answer)
-asked_in xs = flat_map asked_by xs
+abbrev pub calls_in : List Exchange → List (Call × Option Answer)
+calls_in xs = flat_map call_by xs
 
 abbrev pub moments_in : List Exchange → List Reported
 moments_in xs = flat_map moment_by xs
 
 -- whether a list has any elements
-abbrev pub are_some : List ℕ → Bool
-are_some [] = false
-are_some (p ∷ ps) = true
+abbrev pub is_not_empty : List ℕ → Bool
+is_not_empty [] = false
+is_not_empty (p ∷ ps) = true
 
 -- whether a hello was accepted  [profile]
 abbrev pub has_joined : List Exchange → Bool
-has_joined xs = are_some (hellos_in xs)
+has_joined xs = is_not_empty (hellos_in xs)
 
 -- the refusal is of an event, and not of the line itself: neither SYNTAX nor LONG nor NOHELLO
 -- [profile]
@@ -107,20 +107,20 @@ all_answered (x ∷ xs) = is_some x.1 && all_answered xs
 
 -- each further line was submitted after all lines before it were answered, and its word may answer
 -- it  [profile]
-abbrev pub AreAnsweredBehind : List Exchange → List Exchange → Type 0
-AreAnsweredBehind before [] = Unit {0}
-AreAnsweredBehind before (x ∷ xs) =
+abbrev pub AreAnsweredAfter : List Exchange → List Exchange → Type 0
+AreAnsweredAfter before [] = Unit {0}
+AreAnsweredAfter before (x ∷ xs) =
     (all_answered before ≡ true) × IsWordFor (has_joined before) x.0 x.1
-    × AreAnsweredBehind (before ++ x ∷ []) xs
+    × AreAnsweredAfter (before ++ x ∷ []) xs
 
 -- each line was submitted after all lines before it were answered, and its word may answer it
 -- [profile]
 abbrev pub IsTranscript : List Exchange → Type 0
-IsTranscript xs = AreAnsweredBehind [] xs
+IsTranscript xs = AreAnsweredAfter [] xs
 
 -- the lines without their words
-abbrev pub lines_of : List Exchange → List Reading
-lines_of xs = map (λ x. x.0) xs
+abbrev pub lines_of_exchanges : List Exchange → List Reading
+lines_of_exchanges xs = map (λ x. x.0) xs
 
 -- the text of the answer to line n  [profile]
 abbrev pub answer_line : ℕ → Option Word → List ℕ
@@ -143,9 +143,9 @@ calls_of rs = map (λ r. (r.call, r.answer)) rs
 -- a client joined exactly if a hello was accepted; it has that hello's priority, and its receipts
 -- are of the accepted calls  [profile]
 abbrev pub IsPassOf : Retention → List Exchange → Option PassView → Type 0
-IsPassOf r xs None = (hellos_in xs ≡ []) × (asked_in xs ≡ [])
+IsPassOf r xs None = (hellos_in xs ≡ []) × (calls_in xs ≡ [])
 IsPassOf r xs (Some p) =
-    (hellos_in xs ≡ p.priority ∷ []) × (calls_of (receipts_by r p) ≡ asked_in xs)
+    (hellos_in xs ≡ p.priority ∷ []) × (calls_of (receipts_by r p) ≡ calls_in xs)
 
 -- the pass that a client left, without its Death
 abbrev pub pass_of : LeftView → PassView
@@ -164,7 +164,7 @@ abbrev pub IsLeftOf : Retention → List Exchange → Option LeftView → Type 0
 IsLeftOf r xs left = IsPassOf r xs (option_map pass_of left)
 
 -- a client, a clock, what is retained of them, and the lines that were submitted for them
-pub record Dealings : Type 0 where
+pub record SessionState : Type 0 where
   pub retention : Retention
   pub pass : Option PassView
   pub clock : ClockView
@@ -172,7 +172,7 @@ pub record Dealings : Type 0 where
 
 -- each line has a word that may answer it; the client's calls and the clock's moments are the
 -- accepted ones  [profile]
-pub record AreDealings (d : Dealings) : Type 0 where
+pub record IsSessionState (d : SessionState) : Type 0 where
   pub words : IsTranscript d.exchanges
   pub pass : IsPassOf d.retention d.exchanges d.pass
   pub clock : moments_by d.retention d.clock ≡ moments_in d.exchanges

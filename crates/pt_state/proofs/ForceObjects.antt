@@ -7,7 +7,8 @@ use Rattle.pt_types.specs.declared.operations.ObjectClass.TheVariants.{Rwlock as
 use Rattle.pt_types.specs.MutexTable.{is_acquired}
 use Rattle.pt_types.specs.declared.call.ObjectKind.{ObjectKind}
 use Rattle.pt_types.specs.declared.call.ObjectKind.TheVariants as kind
-use Rattle.pt_mutex.specs.MutexState.{MutexState, can_acquire, acquired, yielded}
+use Rattle.pt_mutex.specs.MutexState.{MutexState, can_acquire, mutex_after_acquire}
+use Rattle.pt_mutex.specs.MutexState.{mutex_after_yield}
 use Rattle.pt_rwlock.specs.RwlockState.{RwlockState, reads_of, with_reads, can_acquire_read}
 use Rattle.pt_rwlock.specs.RwlockState.{nobody_holds, ChangesRow}
 use Rattle.pt_table.specs.declared.objects.ObjectRow.{ObjectRow}
@@ -23,8 +24,8 @@ use Rattle.pt_model.specs.declared.waiting_call.Role.{Role}
 use Rattle.pt_model.specs.declared.waiting_call.Role.TheVariants.{ForMutex, ForRead, ForWrite}
 use Rattle.pt_model.specs.declared.waiting_call.Role.TheVariants.{ForBarrier, ForCond}
 use Rattle.pt_model.specs.Answers.{open_calls}
-use Rattle.pt_model.specs.WaitingCall.{mutex_of}
-use Rattle.pt_model.specs.Moves.{moved}
+use Rattle.pt_model.specs.WaitingCall.{final_mutex}
+use Rattle.pt_model.specs.Moves.{wait_move}
 use Rattle.pt_model.specs.Grants.{grant_outcome}
 use Rattle.pt_model.specs.Forced.{is_dead_if, is_orphan}
 use Rattle.pt_model.specs.Mutexes.{owner}
@@ -34,7 +35,7 @@ use Rattle.pt_model.proofs.Seats.{exists_as, HousedBy, housed}
 use Rattle.pt_records.specs.declared.objects.Object.{Object}
 use Rattle.pt_records.specs.declared.objects.Object.TheVariants.{Mutex, Rwlock, Cond, Barrier}
 use Rattle.pt_records.specs.LocksInRows.{mutex_in, rwlock_in}
-use Rattle.pt_records.specs.Objects.{kind_in_row, ObjectsLook, AreObjects}
+use Rattle.pt_records.specs.Objects.{kind_in_row, ObjectsLook, AreObjectRows}
 use Rattle.pt_records.specs.Writes.{WritesObject}
 use Rattle.pt_state.proofs.BoundCounts.{grant-can}
 use Rattle.pt_state.proofs.Locking.{no_number, same_number}
@@ -61,8 +62,8 @@ takes_all h _ (trips w t i c) = tt
 takes_all h _ (expires w t i o) = tt
 
 -- a mutex that is taken from its owner is a robust one with a dead owner
-pub yielded-orphan : (h : History) (m : ℕ) → Step h (Yield m) → is_orphan h m ≡ true
-yielded-orphan h m s = takes_all h (Yield m) s
+pub mutex_after_yield-orphan : (h : History) (m : ℕ) → Step h (Yield m) → is_orphan h m ≡ true
+mutex_after_yield-orphan h m s = takes_all h (Yield m) s
 
 -- a robust mutex is a mutex
 robust-class : (k : Option ObjectKind) → is_robust k ≡ true → is_class k MutexClass ≡ true
@@ -74,7 +75,7 @@ robust-class (Some (kind.Barrier n)) e = absurd (false≢true e)
 
 -- the mutex that a call is for exists
 housed-mutex : (h : History) (m q : ℕ) (role : Role) (move : Option Move) → HousedBy h role move q
-    → mutex_of role q ≡ Some m → exists_as h MutexClass m ≡ true
+    → final_mutex role q ≡ Some m → exists_as h MutexClass m ≡ true
 housed-mutex h m q ForMutex move s e =
     ap (exists_as h MutexClass) (sym (same_number q m e)) ∙ s.0
 housed-mutex h m q (ForCond k) move s e =
@@ -122,48 +123,48 @@ module _ {A : Type 0} (h : History) (look : ℕ → Option (Object A)) (t : Obje
       go (Some (Barrier n)) ex s = absurd (false≢true s)
 
 module _ {A : Type 0} (h : History) (f : Follows h) (old : List (ObjectRow (Object A)))
-    (t : AreObjects h old) where
+    (t : AreObjectRows h old) where
   -- an Expire changes no object
-  pub object_rows-behind-expire : (j : ℕ) → Step h (Expire j) → AreObjects (h ▷ Expire j) old
+  pub object_rows-behind-expire : (j : ℕ) → Step h (Expire j) → AreObjectRows (h ▷ Expire j) old
   object_rows-behind-expire j s =
       object_rows-kept h (Expire j) old t (object_rows-expire h (object_value old) j f s t.look)
       (λ n. refl)
       refl
 
   -- the mutex of a Yield has its row
-  yielded-kept : (m : ℕ) → Step h (Yield m) → (x : MutexState)
+  mutex_after_yield-kept : (m : ℕ) → Step h (Yield m) → (x : MutexState)
       × (object_value old m ≡ Some (Mutex x))
-  yielded-kept m s =
+  mutex_after_yield-kept m s =
       let class = robust-class (kind_of h m) (and_parts (is_robust (kind_of h m))
-      (is_dead_if h (owner h m)) (yielded-orphan h m s)).0 in
+      (is_dead_if h (owner h m)) (mutex_after_yield-orphan h m s)).0 in
       kept-mutex h (object_value old) t.look m class
 
-  pub yielded-there : (m : ℕ) → Step h (Yield m) → IsSome (mutex_in (object_value old m))
-  yielded-there m s = rw (yielded-kept m s).1 refl
+  pub mutex_after_yield-there : (m : ℕ) → Step h (Yield m) → IsSome (mutex_in (object_value old m))
+  mutex_after_yield-there m s = rw (mutex_after_yield-kept m s).1 refl
 
   -- a Yield takes the mutex from its owner
   pub object_rows-behind-yield : (new : List (ObjectRow (Object A))) (m : ℕ) → Step h (Yield m)
       → ((x : MutexState) → object_value old m ≡ Some (Mutex x)
-      → WritesObject old new m (Mutex (record x { seen = yielded x.seen })))
-      → AreObjects (h ▷ Yield m) new
+      → WritesObject old new m (Mutex (record x { view = mutex_after_yield x.view })))
+      → AreObjectRows (h ▷ Yield m) new
   object_rows-behind-yield new m s w =
-      let x = yielded-kept m s in
+      let x = mutex_after_yield-kept m s in
       let here = w x.0 x.1 in
       object_rows-written h (Yield m) old new m
-      (Mutex (record x.0 { seen = yielded x.0.seen })) t here
+      (Mutex (record x.0 { view = mutex_after_yield x.0.view })) t here
       (object_rows-yield h (object_value old) (object_value new) m x.0 f s t.look x.1 here.look)
       (λ n. refl) refl
 
   module _ (w : WaitingCall) (i : In w (open_calls h))
       (s : Step h (Grant w.place (grant_outcome h w))) where
     -- the mutex of a granted call has its row
-    granted-mutex : (m : ℕ) → mutex_of w.role w.object ≡ Some m
+    granted-mutex : (m : ℕ) → final_mutex w.role w.object ≡ Some m
         → (x : MutexState) × (object_value old m ≡ Some (Mutex x))
     granted-mutex m e =
         kept-mutex h (object_value old) t.look m
-        (housed-mutex h m w.object w.role (moved h w.place) (housed h f w i) e)
+        (housed-mutex h m w.object w.role (wait_move h w.place) (housed h f w i) e)
 
-    pub granted-mutex-there : (m : ℕ) → mutex_of w.role w.object ≡ Some m
+    pub granted-mutex-there : (m : ℕ) → final_mutex w.role w.object ≡ Some m
         → IsSome (mutex_in (object_value old m))
     granted-mutex-there m e = rw (granted-mutex m e).1 refl
 
@@ -172,7 +173,7 @@ module _ {A : Type 0} (h : History) (f : Follows h) (old : List (ObjectRow (Obje
         → (r : RwlockState) × (object_value old w.object ≡ Some (Rwlock r))
     read-lock role =
         kept-rwlock h (object_value old) t.look w.object
-        ((housed-rwlock h w.object w.role (moved h w.place) (housed h f w i)).0 role)
+        ((housed-rwlock h w.object w.role (wait_move h w.place) (housed h f w i)).0 role)
 
     pub read-lock-there : w.role ≡ ForRead → IsSome (rwlock_in (object_value old w.object))
     read-lock-there role = rw (read-lock role).1 refl
@@ -181,40 +182,40 @@ module _ {A : Type 0} (h : History) (f : Follows h) (old : List (ObjectRow (Obje
         → (r : RwlockState) × (object_value old w.object ≡ Some (Rwlock r))
     write-lock role =
         kept-rwlock h (object_value old) t.look w.object
-        ((housed-rwlock h w.object w.role (moved h w.place) (housed h f w i)).1 role)
+        ((housed-rwlock h w.object w.role (wait_move h w.place) (housed h f w i)).1 role)
 
     pub write-lock-there : w.role ≡ ForWrite → IsSome (rwlock_in (object_value old w.object))
     write-lock-there role = rw (write-lock role).1 refl
 
     -- the client can be given the mutex
-    pub acquires : (m : ℕ) → mutex_of w.role w.object ≡ Some m
+    pub acquires : (m : ℕ) → final_mutex w.role w.object ≡ Some m
         → is_acquired (grant_outcome h w) ≡ true → (x : MutexState)
-        → object_value old m ≡ Some (Mutex x) → can_acquire x.seen w.client ≡ true
-    acquires m e told x k =
+        → object_value old m ≡ Some (Mutex x) → can_acquire x.view w.client ≡ true
+    acquires m e replies x k =
         ap (λ v. can_acquire v w.client) (t.look.mutexes m x k).0
-        ∙ grant-can h f w m i (granted-may h w f i s) e told
+        ∙ grant-can h f w m i (granted-may h w f i s) e replies
 
     -- and holds it once more
     pub object_rows-behind-mutex : (new : List (ObjectRow (Object A))) (m : ℕ)
-        → mutex_of w.role w.object ≡ Some m → is_acquired (grant_outcome h w) ≡ true
+        → final_mutex w.role w.object ≡ Some m → is_acquired (grant_outcome h w) ≡ true
         → ((x : MutexState) → object_value old m ≡ Some (Mutex x)
-        → WritesObject old new m (Mutex (record x { seen = acquired x.seen w.client })))
-        → AreObjects (after_grant h w) new
-    object_rows-behind-mutex new m e told wr =
+        → WritesObject old new m (Mutex (record x { view = mutex_after_acquire x.view w.client })))
+        → AreObjectRows (after_grant h w) new
+    object_rows-behind-mutex new m e replies wr =
         let x = granted-mutex m e in
         let here = wr x.0 x.1 in
         object_rows-written h (Grant w.place (grant_outcome h w)) old new m
-        (Mutex (record x.0 { seen = acquired x.0.seen w.client })) t here
+        (Mutex (record x.0 { view = mutex_after_acquire x.0.view w.client })) t here
         (object_rows-grant-mutex h (object_value old) w f i s t.look
-        (object_value new) m x.0 e x.1 told
+        (object_value new) m x.0 e x.1 replies
         here.look) (λ n. refl) refl
 
     -- a mutex that is lost stays as it is
-    pub object_rows-behind-lost : (m : ℕ) → mutex_of w.role w.object ≡ Some m
-        → is_acquired (grant_outcome h w) ≡ false → AreObjects (after_grant h w) old
-    object_rows-behind-lost m e told =
+    pub object_rows-behind-lost : (m : ℕ) → final_mutex w.role w.object ≡ Some m
+        → is_acquired (grant_outcome h w) ≡ false → AreObjectRows (after_grant h w) old
+    object_rows-behind-lost m e replies =
         object_rows-kept h (Grant w.place (grant_outcome h w)) old t
-        (object_rows-grant-lost h (object_value old) w f i s t.look m e told) (λ n. refl) refl
+        (object_rows-grant-lost h (object_value old) w f i s t.look m e replies) (λ n. refl) refl
 
     -- the client can be given the lock for reading
     pub acquires-read : w.role ≡ ForRead → (r : RwlockState)
@@ -229,7 +230,7 @@ module _ {A : Type 0} (h : History) (f : Follows h) (old : List (ObjectRow (Obje
         → ((r : RwlockState) → object_value old w.object ≡ Some (Rwlock r)
         → ChangesRow r (with_reads r w.client (reads_of r w.client + 1)) w.client
         (Some (reads_of r w.client + 1)))
-        → AreObjects (after_grant h w) new
+        → AreObjectRows (after_grant h w) new
     object_rows-behind-read new role wr row =
         let r = read-lock role in
         let here = wr r.0 r.1 in
@@ -250,7 +251,7 @@ module _ {A : Type 0} (h : History) (f : Follows h) (old : List (ObjectRow (Obje
     pub object_rows-behind-write : (new : List (ObjectRow (Object A))) → w.role ≡ ForWrite
         → ((r : RwlockState) → object_value old w.object ≡ Some (Rwlock r)
         → WritesObject old new w.object (Rwlock (record r { writer = Some w.client })))
-        → AreObjects (after_grant h w) new
+        → AreObjectRows (after_grant h w) new
     object_rows-behind-write new role wr =
         let r = write-lock role in
         let here = wr r.0 r.1 in

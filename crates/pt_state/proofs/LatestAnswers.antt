@@ -5,9 +5,9 @@ use Rattle.std.proofs.Common.{arith}
 use Rattle.std.proofs.lemmas.Bool.Decides.{nat_tests}
 use Rattle.std.proofs.lemmas.Bool.{false≢true, and_parts, and_from}
 use Rattle.std.specs.Option.{option_or}
-use Rattle.pt_types.specs.declared.call.Call.{Call as Asked}
+use Rattle.pt_types.specs.declared.call.Call.{Call as FunctionCall}
 use Rattle.pt_types.specs.declared.outcome.Outcome.{Outcome}
-use Rattle.pt_types.specs.MutexTable.{is_number}
+use Rattle.pt_types.specs.MutexTable.{is_some_number}
 use Rattle.pt_types.specs.Tables.{reply}
 use Rattle.pt_model.specs.declared.entry.Entry.{Entry}
 use Rattle.pt_model.specs.declared.entry.Entry.TheVariants.{Join, Call, Death, Moment, Grant, Trip}
@@ -16,8 +16,9 @@ use Rattle.pt_model.specs.Searches.{In}
 use Rattle.pt_model.specs.Histories.{History, Begin, ◌▷◌, place}
 use Rattle.pt_model.specs.Clients.{is_alive}
 use Rattle.pt_model.specs.declared.waiting_call.WaitingCall.{WaitingCall}
-use Rattle.pt_model.specs.Answers.{told, told_by_trip, at_barrier, outcome_in, outcome, open_calls}
-use Rattle.pt_model.specs.Queries.{latest}
+use Rattle.pt_model.specs.Answers.{entry_replies, trip_replies, at_barrier, outcome_in, outcome}
+use Rattle.pt_model.specs.Answers.{open_calls}
+use Rattle.pt_model.specs.Queries.{latest_call}
 use Rattle.pt_model.specs.Seals.{is_latest, seal}
 use Rattle.pt_model.specs.Grants.{grant_outcome}
 use Rattle.pt_model.specs.Verdicts.{verdict}
@@ -29,45 +30,46 @@ use Rattle.pt_model.proofs.Lists.{In-filter, any-in}
 use Rattle.pt_model.proofs.Once.{open_unanswered}
 use Rattle.pt_model.proofs.Opens.{stands_at_barrier, trip-any}
 use Rattle.pt_model.proofs.Sound.{Fresh, Fresh-follows, alive_below}
-use Rattle.pt_told.proofs.LatestCalls.{open-latest}
+use Rattle.pt_client_events.proofs.LatestCalls.{open-latest_call}
 use Rattle.pt_records.specs.Callers.{latest_answer}
 use Rattle.pt_records.specs.Logs.{log, outcome_before, outcome_in_log}
 use Rattle.pt_records.proofs.LogLemmas.{log-outcome}
-use Rattle.pt_state.proofs.ToldLemmas.{answer_to}
+use Rattle.pt_state.proofs.ReplyLemmas.{answer_to}
 
 -- a latest call has come, and is no other client's
 pub record IsLatest (h : History) (c j : ℕ) : Type 0 where
   pub came : j < place h
-  pub alone : (d : ℕ) → latest h d ≡ Some j → c ≡ d
+  pub alone : (d : ℕ) → latest_call h d ≡ Some j → c ≡ d
 
 abbrev AreLatest : History → Type 0
-AreLatest h = (c j : ℕ) → latest h c ≡ Some j → IsLatest h c j
+AreLatest h = (c j : ℕ) → latest_call h c ≡ Some j → IsLatest h c j
 
 -- the latest calls stay if no call is added
-later : (h : History) (e : Entry) (c j : ℕ) → ((d : ℕ) → latest (h ▷ e) d ≡ latest h d)
+later : (h : History) (e : Entry) (c j : ℕ) → ((d : ℕ) → latest_call (h ▷ e) d ≡ latest_call h d)
     → IsLatest h c j
     → IsLatest (h ▷ e) c j
 later h e c j same l =
     record { came = omega (arith, l.came); alone = λ d k. l.alone d (sym (same d) ∙ k) }
 
-latest_called : (h : History) (a : ℕ) (call : Asked) (r : Option Outcome) → AreLatest h
+latest_called : (h : History) (a : ℕ) (call : FunctionCall) (r : Option Outcome) → AreLatest h
     → AreLatest (h ▷ Call a call r)
 latest_called h a call r ih c j l = go (a == c) refl l
   where
-    own : (d : ℕ) (b : Bool) → (a == d) ≡ b → cond b (Some (place h)) (latest h d) ≡ Some (place h)
+    own : (d : ℕ) (b : Bool) → (a == d) ≡ b → cond b (Some (place h)) (latest_call h d)
+        ≡ Some (place h)
         → a ≡ d
     own d true e k = grind (arith, nat_tests)
     own d false e k = let lt = (ih d (place h) k).came in absurd (omega (arith, lt))
 
-    other : (d : ℕ) (b : Bool) → (a == d) ≡ b → cond b (Some (place h)) (latest h d) ≡ Some j
-        → latest h c ≡ Some j → c ≡ d
+    other : (d : ℕ) (b : Bool) → (a == d) ≡ b → cond b (Some (place h)) (latest_call h d) ≡ Some j
+        → latest_call h c ≡ Some j → c ≡ d
     other d true e k m =
         let at : place h ≡ j = cc in
         let lt = (ih c j m).came in
         absurd (omega (arith, at, lt))
     other d false e k m = (ih c j m).alone d k
 
-    go : (b : Bool) → (a == c) ≡ b → cond b (Some (place h)) (latest h c) ≡ Some j
+    go : (b : Bool) → (a == c) ≡ b → cond b (Some (place h)) (latest_call h c) ≡ Some j
         → IsLatest (h ▷ Call a call r) c j
     go true e k =
         let at : place h ≡ j = cc in
@@ -105,22 +107,23 @@ kept_some false o j e = absurd cc
 
 latest_sealed : (h : History) → AreLatest h → AreLatest (Begin (seal h))
 latest_sealed h ih c j l =
-    let was = ih c j (kept_some (is_alive h c) (latest h c) j l) in
+    let was = ih c j (kept_some (is_alive h c) (latest_call h c) j l) in
     record {
       came = was.came;
-      alone = λ d k. was.alone d (kept_some (is_alive h d) (latest h d) j k);
+      alone = λ d k. was.alone d (kept_some (is_alive h d) (latest_call h d) j k);
     }
 
-pub are-latest : (h : History) → Follows h → (c j : ℕ) → latest h c ≡ Some j → IsLatest h c j
-are-latest h f =
+pub are-latest_call : (h : History) → Follows h → (c j : ℕ) → latest_call h c ≡ Some j
+    → IsLatest h c j
+are-latest_call h f =
     by_steps AreLatest (λ c j l. absurd cc) (λ h e f ih s. latest_step h e ih s)
     (λ h f ih. latest_sealed h ih) h f
 
 -- the answer to the latest call is the same if neither the call nor its answer changes
-pub answer-same : (h g : History) (c : ℕ) → latest g c ≡ latest h c
-    → ((j : ℕ) → latest h c ≡ Some j → outcome g j ≡ outcome h j)
+pub answer-same : (h g : History) (c : ℕ) → latest_call g c ≡ latest_call h c
+    → ((j : ℕ) → latest_call h c ≡ Some j → outcome g j ≡ outcome h j)
     → latest_answer g c ≡ latest_answer h c
-answer-same h g c l t = ap (option_and_then (outcome g)) l ∙ go (latest h c) t
+answer-same h g c l t = ap (option_and_then (outcome g)) l ∙ go (latest_call h c) t
   where
     go : (o : Option ℕ) → ((j : ℕ) → o ≡ Some j → outcome g j ≡ outcome h j)
         → option_and_then (outcome g) o ≡ option_and_then (outcome h) o
@@ -128,13 +131,13 @@ answer-same h g c l t = ap (option_and_then (outcome g)) l ∙ go (latest h c) t
     go (Some j) t = t j refl
 
 -- an entry that answers nothing
-pub answer-quiet : (h : History) (e : Entry) (c : ℕ) → latest (h ▷ e) c ≡ latest h c
-    → told h e ≡ [] → latest_answer (h ▷ e) c ≡ latest_answer h c
+pub answer-quiet : (h : History) (e : Entry) (c : ℕ) → latest_call (h ▷ e) c ≡ latest_call h c
+    → entry_replies h e ≡ [] → latest_answer (h ▷ e) c ≡ latest_answer h c
 answer-quiet h e c l t =
     answer-same h (h ▷ e) c l (λ j k. ap (λ ts. option_or (outcome_in ts j) (outcome h j)) t)
 
 -- a call is its client's latest
-pub answer-called : (h : History) (c : ℕ) (call : Asked) (r : Option Outcome) → Fresh h
+pub answer-called : (h : History) (c : ℕ) (call : FunctionCall) (r : Option Outcome) → Fresh h
     → latest_answer (h ▷ Call c call r) c ≡ r
 answer-called h c call r f =
     let here : (c == c) ≡ true = grind (arith, nat_tests) in rw here (go r)
@@ -145,10 +148,11 @@ answer-called h c call r f =
     go None = f.answers (place h) (omega arith)
 
 -- and nobody else's
-pub answer-other : (h : History) (c : ℕ) (call : Asked) (r : Option Outcome) (d : ℕ) → Follows h
+pub answer-other : (h : History) (c : ℕ) (call : FunctionCall) (r : Option Outcome) (d : ℕ) → Follows h
     → (c == d) ≡ false → latest_answer (h ▷ Call c call r) d ≡ latest_answer h d
 answer-other h c call r d f ne =
-    answer-same h (h ▷ Call c call r) d (rw ne refl) (λ j l. go r j (are-latest h f d j l).came)
+    answer-same h (h ▷ Call c call r) d (rw ne refl) (λ j l. go r j
+    (are-latest_call h f d j l).came)
   where
     go : (x : Option Outcome) (j : ℕ) → j < place h
         → outcome (h ▷ Call c call x) j ≡ outcome h j
@@ -157,28 +161,29 @@ answer-other h c call r d f ne =
         let apart : (place h == j) ≡ false = grind (arith, nat_tests) in rw apart refl
 
 module _ (h : History) (f : Follows h) (w : WaitingCall) (i : In w (open_calls h)) (e : Entry)
-    (x : Outcome) (one : told h e ≡ answer_to w x ∷ []) where
+    (x : Outcome) (one : entry_replies h e ≡ answer_to w x ∷ []) where
   -- an open call is answered
-  pub answer-one : latest (h ▷ e) w.client ≡ latest h w.client
+  pub answer-one : latest_call (h ▷ e) w.client ≡ latest_call h w.client
       → latest_answer (h ▷ e) w.client ≡ Some x
   answer-one l =
-      ap (option_and_then (outcome (h ▷ e))) (l ∙ open-latest h f w i)
+      ap (option_and_then (outcome (h ▷ e))) (l ∙ open-latest_call h f w i)
       ∙ (ap (λ ts. option_or (outcome_in ts w.place) (outcome h w.place)) one
       ∙ (let here : (w.place == w.place) ≡ true = grind (arith, nat_tests) in rw here refl))
 
   -- the other clients' latest calls have the answers that they had
-  pub answer-others : (d : ℕ) → (w.client == d) ≡ false → latest (h ▷ e) d ≡ latest h d
+  pub answer-others : (d : ℕ) → (w.client == d) ≡ false → latest_call (h ▷ e) d ≡ latest_call h d
       → latest_answer (h ▷ e) d ≡ latest_answer h d
   answer-others d ne l =
       answer-same h (h ▷ e) d l (λ j k.
       ap (λ ts. option_or (outcome_in ts j) (outcome h j)) one ∙ go j k (w.place == j) refl)
     where
-      go : (j : ℕ) → latest h d ≡ Some j → (b : Bool) → (w.place == j) ≡ b
+      go : (j : ℕ) → latest_call h d ≡ Some j → (b : Bool) → (w.place == j) ≡ b
           → option_or (cond b (Some x) None) (outcome h j) ≡ outcome h j
       go j k true e =
           let at : w.place ≡ j = grind (arith, nat_tests) in
           let by : w.client ≡ d =
-          (are-latest h f w.client w.place (open-latest h f w i)).alone d (k ∙ ap Some (sym at)) in
+          (are-latest_call h f w.client w.place (open-latest_call h f w i)).alone d (k
+          ∙ ap Some (sym at)) in
           absurd (grind (arith, nat_tests))
       go j k false e = refl
 
@@ -195,7 +200,7 @@ module _ (h : History) (f : Follows h) (b : ℕ) where
   pub answer-tripped : (w : WaitingCall) → In w (open_calls h)
       → latest_answer (h ▷ Trip b) w.client ≡ outcome_in_log (log (h ▷ Trip b)) w.place
   answer-tripped w i =
-      ap (option_and_then (outcome (h ▷ Trip b))) (open-latest h f w i)
+      ap (option_and_then (outcome (h ▷ Trip b))) (open-latest_call h f w i)
       ∙ (log-outcome (h ▷ Trip b) w.place
       ∙ or_none (outcome_in_log (log (h ▷ Trip b)) w.place) (outcome_before h w.place)
       (or_before (outcome_in_log (log h) w.place) (outcome_before h w.place)
@@ -205,13 +210,14 @@ module _ (h : History) (f : Follows h) (b : ℕ) where
   pub answer-untripped : (d : ℕ) → ((w : WaitingCall) → In w (open_calls h) → w.client ≡ d
       → stands_at_barrier b w ≡ false) → latest_answer (h ▷ Trip b) d ≡ latest_answer h d
   answer-untripped d t =
-      answer-same h (h ▷ Trip b) d refl (λ j l. go j l (outcome_in (told h (Trip b)) j) refl)
+      answer-same h (h ▷ Trip b) d refl (λ j l. go j l (outcome_in (entry_replies h
+      (Trip b)) j) refl)
     where
       ws : List WaitingCall
       ws = at_barrier b (open_calls h)
 
-      go : (j : ℕ) → latest h d ≡ Some j → (o : Option Outcome)
-          → outcome_in (told_by_trip (at_barrier b (open_calls h))) j ≡ o
+      go : (j : ℕ) → latest_call h d ≡ Some j → (o : Option Outcome)
+          → outcome_in (trip_replies (at_barrier b (open_calls h))) j ≡ o
           → option_or o (outcome h j) ≡ outcome h j
       go j l None e = refl
       go j l (Some x) e =
@@ -221,7 +227,7 @@ module _ (h : History) (f : Follows h) (b : ℕ) where
           let here = (and_parts (r.0.place == j) true r.1.1).0 in
           let at : r.0.place ≡ j = grind (arith, nat_tests) in
           let by : r.0.client ≡ d =
-          (are-latest h f r.0.client r.0.place (open-latest h f r.0 i.0)).alone d
+          (are-latest_call h f r.0.client r.0.place (open-latest_call h f r.0 i.0)).alone d
           (l ∙ ap Some (sym at)) in
           absurd (false≢true (sym (t r.0 i.0 by) ∙ i.1))
 
@@ -231,10 +237,10 @@ pub answer-sealed : (h : History) → Follows h → (c : ℕ) → is_alive h c �
 answer-sealed h f c a =
     answer-same h (Begin (seal h)) c (rw a refl) (λ j l. rw (kept j l) refl)
   where
-    kept : (j : ℕ) → latest h c ≡ Some j → is_latest h j ≡ true
+    kept : (j : ℕ) → latest_call h c ≡ Some j → is_latest h j ≡ true
     kept j l =
-        let same : is_number (latest h c) j ≡ true =
+        let same : is_some_number (latest_call h c) j ≡ true =
         let here : (j == j) ≡ true = grind (arith, nat_tests) in rw l here in
-        first_below-some (place h) (λ d. is_alive h d && is_number (latest h d) j) c
+        first_below-some (place h) (λ d. is_alive h d && is_some_number (latest_call h d) j) c
         (alive_below h c (Fresh-follows h f) a)
-        (and_from (is_alive h c) (is_number (latest h c) j) a same)
+        (and_from (is_alive h c) (is_some_number (latest_call h c) j) a same)

@@ -4,9 +4,9 @@ use Rattle.std.proofs.Common.{◌≡◌, ℕ, Bool, true, false, cond, ◌⊎◌
 use Rattle.std.proofs.Common.{Some, is_some, refl, sym, ap, ◌∙◌, subst, arith}
 use Rattle.std.proofs.lemmas.Bool.Decides.{nat_tests}
 use Rattle.std.specs.Prelude.{unwrap_or}
-use Rattle.pt_types.specs.declared.call.Call.{Call as Asked}
+use Rattle.pt_types.specs.declared.call.Call.{Call as FunctionCall}
 use Rattle.pt_types.specs.Tables.{reply}
-use Rattle.pt_rwlock.specs.RwlockState.{RwlockState, row_of, reads_of, with_row, ChangesRow}
+use Rattle.pt_rwlock.specs.RwlockState.{RwlockState, reads_in_row, reads_of, with_row, ChangesRow}
 use Rattle.pt_model.specs.declared.entry.Entry.TheVariants.{Call}
 use Rattle.pt_model.specs.Histories.{History, ◌▷◌, place}
 use Rattle.pt_model.specs.Objects.{kind_of}
@@ -17,7 +17,7 @@ use Rattle.pt_model.specs.declared.waiting_call.Role.TheVariants.{ForBarrier, Fo
 use Rattle.pt_model.specs.Searches.{In}
 use Rattle.pt_model.specs.Answers.{open_calls}
 use Rattle.pt_model.specs.Mutexes.{consistency}
-use Rattle.pt_model.specs.Rwlocks.{writes, reads}
+use Rattle.pt_model.specs.Rwlocks.{is_writer, read_count}
 use Rattle.pt_model.specs.Verdicts.{verdict}
 use Rattle.pt_model.specs.Steps.{Step, Follows}
 use Rattle.pt_model.proofs.Effects.{Effect, Idle, Creates, Removes, Relocks, Frees, Mends, Returns}
@@ -25,9 +25,9 @@ use Rattle.pt_model.proofs.Effects.{Wakes, Waits, effect, Allowed}
 use Rattle.pt_model.proofs.Allowances.{allowed}
 use Rattle.pt_model.proofs.Changes.{left_by, kind_effect, takes_more, awaited, gives_up, mends}
 use Rattle.pt_model.proofs.Changes.{returns_it, resolved}
-use Rattle.pt_model.proofs.Readings.{kind-call, consistency-call, writes-call, reads-call}
+use Rattle.pt_model.proofs.Readings.{kind-call, consistency-call, is_writer-call, reads-call}
 use Rattle.pt_model.proofs.Opens.{was_open}
-use Rattle.pt_model.proofs.Counts.{Balanced-follows, count-call}
+use Rattle.pt_model.proofs.Counts.{Balanced-follows, mutex_count-call}
 use Rattle.pt_records.specs.declared.objects.Object.{Object}
 use Rattle.pt_records.specs.declared.objects.Object.TheVariants.{Rwlock}
 use Rattle.pt_records.specs.Objects.{ObjectsLook}
@@ -36,11 +36,11 @@ use Rattle.pt_state.proofs.OneObject.{object_rows-quiet, object_rows-one, rwlock
 use Rattle.pt_state.proofs.ObjectEntries.{quiet-parts, old-readers}
 
 -- the effect of a client's call with its own answer
-abbrev pub does : History → ℕ → Asked → Effect
+abbrev pub does : History → ℕ → FunctionCall → Effect
 does h c call = effect h c call (reply (verdict h c call))
 
 -- the history after it
-abbrev pub behind : History → ℕ → Asked → History
+abbrev pub behind : History → ℕ → FunctionCall → History
 behind h c call = h ▷ Call c call (reply (verdict h c call))
 
 -- an effect leaves this object alone
@@ -52,20 +52,21 @@ pub record Spares (h : History) (E : Effect) (o : ℕ) : Type 0 where
   pub returns : returns_it E o ≡ false
 
 -- so nothing that is read off this object changes
-pub quiet-call : (h : History) (c : ℕ) (call : Asked) → Follows h → (o : ℕ)
+pub quiet-call : (h : History) (c : ℕ) (call : FunctionCall) → Follows h → (o : ℕ)
     → Spares h (does h c call) o → Quiet h (behind h c call) o
 quiet-call h c call f o s =
     quiet-parts h (Call c call (reply (verdict h c call))) o f
     (kind-call h c call (reply (verdict h c call)) (kind_of h o) o ∙ s.kinds)
     (consistency-call h c call (reply (verdict h c call)) (resolved h c call) o (consistency h o)
     ∙ rw (s.mends, s.gives) refl)
-    (λ d. count-call h c call (reply (verdict h c call)) o d (resolved h c call)
+    (λ d. mutex_count-call h c call (reply (verdict h c call)) o d (resolved h c call)
     (Balanced-follows h f) ∙ rw (s.takes, s.gives) refl)
-    (λ d. writes-call h c call (reply (verdict h c call)) o d (writes h o d) ∙ rw s.returns refl)
-    (λ d. reads-call h c call (reply (verdict h c call)) o d (reads h o d) ∙ rw s.returns refl)
+    (λ d. is_writer-call h c call (reply (verdict h c call)) o d (is_writer h o d)
+    ∙ rw s.returns refl)
+    (λ d. reads-call h c call (reply (verdict h c call)) o d (read_count h o d) ∙ rw s.returns refl)
 
 -- whoever waits for a read lock after a call did so before, unless the call does
-pub call-readers : (h : History) (c : ℕ) (call : Asked) → Follows h
+pub call-readers : (h : History) (c : ℕ) (call : FunctionCall) → Follows h
     → Step h (Call c call (reply (verdict h c call))) → (E : Effect) → does h c call ≡ E
     → ((w : WaitingCall) → In w (left_by E) → w.role ≡ ForRead → ⊥)
     → OldReaders h (behind h c call)
@@ -132,35 +133,36 @@ idle-unread (Mends m) t w i r = i
 idle-unread (Returns m) t w i r = i
 
 -- a change of one row leaves the read locks in the others unchanged
-pub reads-changed : (r r' : RwlockState) (c n : ℕ) → ChangesRow r r' c (Some n) → (d : ℕ)
+pub read_count-changed : (r r' : RwlockState) (c n : ℕ) → ChangesRow r r' c (Some n) → (d : ℕ)
     → reads_of r' d ≡ cond (c == d) n (reads_of r d)
-reads-changed r r' c n change d = ap (λ o. unwrap_or o 0) (change d) ∙ go (c == d)
+read_count-changed r r' c n change d = ap (λ o. unwrap_or o 0) (change d) ∙ go (c == d)
   where
-    go : (b : Bool) → unwrap_or (cond b (Some n) (row_of r d)) 0 ≡ cond b n (reads_of r d)
+    go : (b : Bool) → unwrap_or (cond b (Some n) (reads_in_row r d)) 0 ≡ cond b n (reads_of r d)
     go true = refl
     go false = refl
 
 -- and takes no row away
 pub rows-changed : (r r' : RwlockState) (c n : ℕ) → ChangesRow r r' c (Some n) → (d : ℕ)
-    → is_some (row_of r d) ≡ true → is_some (row_of r' d) ≡ true
+    → is_some (reads_in_row r d) ≡ true → is_some (reads_in_row r' d) ≡ true
 rows-changed r r' c n change d t = ap is_some (change d) ∙ go (c == d)
   where
-    go : (b : Bool) → is_some (cond b (Some n) (row_of r d)) ≡ true
+    go : (b : Bool) → is_some (cond b (Some n) (reads_in_row r d)) ≡ true
     go true = refl
     go false = t
 
 -- a new row leaves the writer unchanged
 row-writer : (r : RwlockState) (c : ℕ) → (with_row r c).writer ≡ r.writer
-row-writer r c = go (is_some (row_of r c)) refl
+row-writer r c = go (is_some (reads_in_row r c)) refl
   where
-    go : (b : Bool) → is_some (row_of r c) ≡ b → (with_row r c).writer ≡ r.writer
+    go : (b : Bool) → is_some (reads_in_row r c) ≡ b → (with_row r c).writer ≡ r.writer
     go true e = rw e refl
     go false e = rw e refl
 
 -- and every read lock
-row-reads : (r r' : RwlockState) (c : ℕ) → ChangesRow r r' c (Some (reads_of r c)) → (d : ℕ)
+row-read_count : (r r' : RwlockState) (c : ℕ) → ChangesRow r r' c (Some (reads_of r c)) → (d : ℕ)
     → reads_of r' d ≡ reads_of r d
-row-reads r r' c change d = reads-changed r r' c (reads_of r c) change d ∙ go (c == d) refl
+row-read_count r r' c change d = read_count-changed r r' c (reads_of r c) change d
+    ∙ go (c == d) refl
   where
     go : (b : Bool) → (c == d) ≡ b → cond b (reads_of r c) (reads_of r d) ≡ reads_of r d
     go true e = let same : c ≡ d = grind (arith, nat_tests) in ap (reads_of r) same
@@ -168,7 +170,7 @@ row-reads r r' c change d = reads-changed r r' c (reads_of r c) change d ∙ go 
 
 module _ {A : Type 0} where
   -- the same look-up is right after a call that changes no object
-  pub object_rows-idle : (h : History) (look : ℕ → Option (Object A)) (c : ℕ) (call : Asked)
+  pub object_rows-idle : (h : History) (look : ℕ → Option (Object A)) (c : ℕ) (call : FunctionCall)
       → Follows h
       → Step h (Call c call (reply (verdict h c call))) → ObjectsLook h look
       → is_idle (does h c call) ≡ true → ObjectsLook (behind h c call) look
@@ -178,10 +180,10 @@ module _ {A : Type 0} where
       (call-readers h c call f s (does h c call) refl (idle-unread (does h c call) e))
 
   -- and after one that waits for a read lock, if its client has a row
-  pub object_rows-read : (h : History) (look : ℕ → Option (Object A)) (c : ℕ) (call : Asked)
+  pub object_rows-read : (h : History) (look : ℕ → Option (Object A)) (c : ℕ) (call : FunctionCall)
       (w : WaitingCall) → Follows h → Step h (Call c call (reply (verdict h c call)))
       → ObjectsLook h look → does h c call ≡ Waits w → w.role ≡ ForRead
-      → ((r : RwlockState) → look w.object ≡ Some (Rwlock r) → is_some (row_of r c) ≡ true)
+      → ((r : RwlockState) → look w.object ≡ Some (Rwlock r) → is_some (reads_in_row r c) ≡ true)
       → ObjectsLook (behind h c call) look
   object_rows-read h look c call w f s t e role row =
       object_rows-still h (behind h c call) look t
@@ -206,7 +208,7 @@ module _ {A : Type 0} where
           ap (λ (u : WaitingCall). u.client) a.0
 
       new : (o : ℕ) (r : RwlockState) → look o ≡ Some (Rwlock r) → (v : WaitingCall) → v.object ≡ o
-          → In v (w ∷ []) → is_some (row_of r v.client) ≡ true
+          → In v (w ∷ []) → is_some (reads_in_row r v.client) ≡ true
       new o r k v at (inl same) =
           let here : w.object ≡ o = ap (λ (u : WaitingCall). u.object) (sym same) ∙ at in
           let client : v.client ≡ c = ap (λ (u : WaitingCall). u.client) same ∙ by in
@@ -216,7 +218,7 @@ module _ {A : Type 0} where
       go : (o : ℕ) (r : RwlockState) → look o ≡ Some (Rwlock r) → HasRows h o r → (v : WaitingCall)
           → v.role ≡ ForRead → v.object ≡ o
           → In v (open_calls h) ⊎ In v (left_by (does h c call))
-          → is_some (row_of r v.client) ≡ true
+          → is_some (reads_in_row r v.client) ≡ true
       go o r k rows v a at (inl i) = rows v i a at
       go o r k rows v a at (inr i) = new o r k v at (subst (λ (E : Effect). In v (left_by E)) e i)
 
@@ -233,7 +235,7 @@ module _ {A : Type 0} where
       (rwlock-changed h h look t o r r' e refl
       record {
         writer = ap (λ (x : RwlockState). x.writer) made ∙ (row-writer r c ∙ old.writer);
-        reads = λ d. row-reads r r' c row d ∙ old.reads d;
+        reads = λ d. row-read_count r r' c row d ∙ old.reads d;
         rows = λ w i role at. rows-changed r r' c (reads_of r c) row w.client
             (old.rows w i role at);
       })

@@ -3,7 +3,7 @@ use Rattle.std.proofs.Common.{◌≡◌, ℕ, suc, true, cond, ◌⊎◌, inl, i
 use Rattle.std.proofs.Common.{None, refl, ap, ◌∙◌, arith}
 use Rattle.std.proofs.lemmas.Bool.Decides.{nat_tests}
 use Rattle.pt_types.specs.MutexTable.{after_yield}
-use Rattle.pt_mutex.specs.MutexState.{MutexState, yielded}
+use Rattle.pt_mutex.specs.MutexState.{MutexState, mutex_after_yield}
 use Rattle.pt_types.specs.declared.time.Clock.{Clock}
 use Rattle.pt_model.specs.declared.entry.Entry.{Entry}
 use Rattle.pt_model.specs.declared.entry.Entry.TheVariants.{Join, Death, Moment, Trip, Yield}
@@ -14,13 +14,13 @@ use Rattle.pt_model.specs.declared.waiting_call.WaitingCall.{WaitingCall}
 use Rattle.pt_model.specs.declared.waiting_call.Role.TheVariants.{ForRead}
 use Rattle.pt_model.specs.Searches.{In}
 use Rattle.pt_model.specs.Answers.{open_calls}
-use Rattle.pt_model.specs.Mutexes.{consistency, owner, count, mutex_view}
-use Rattle.pt_model.specs.Rwlocks.{writes, writer, reads}
+use Rattle.pt_model.specs.Mutexes.{consistency, owner, mutex_count, mutex_view}
+use Rattle.pt_model.specs.Rwlocks.{is_writer, write_holder, read_count}
 use Rattle.pt_model.specs.Steps.{Step, Follows}
 use Rattle.pt_model.proofs.Leasts.{first_below-same, first_below-more}
 use Rattle.pt_model.proofs.Opens.{left, was_open}
-use Rattle.pt_model.proofs.Unheld.{Unheld-follows}
-use Rattle.pt_model.proofs.Counts.{count-yield}
+use Rattle.pt_model.proofs.NotOwned.{Unheld-follows}
+use Rattle.pt_model.proofs.Counts.{mutex_count-yield}
 use Rattle.pt_model.proofs.Holders.{owner-same, owner-yield}
 use Rattle.pt_records.specs.declared.objects.Object.{Object}
 use Rattle.pt_records.specs.declared.objects.Object.TheVariants.{Mutex}
@@ -29,30 +29,34 @@ use Rattle.pt_state.proofs.OneObject.{OldReaders, Quiet, view-same, object_rows-
 use Rattle.pt_state.proofs.OneObject.{object_rows-one, mutex-changed}
 
 -- an entry that changes no client's write lock leaves it to its writer
-pub writer-same : (h : History) (e : Entry) (r : ℕ) → Follows h
-    → ((c : ℕ) → writes (h ▷ e) r c ≡ writes h r c) → writer (h ▷ e) r ≡ writer h r
-writer-same h e r f same =
-    first_below-same (suc (place h)) (λ c. writes (h ▷ e) r c) (λ c. writes h r c) (λ c lt. same c)
-    ∙ first_below-more (place h) (λ c. writes h r c)
+pub write_holder-same : (h : History) (e : Entry) (r : ℕ) → Follows h
+    → ((c : ℕ) → is_writer (h ▷ e) r c ≡ is_writer h r c) → write_holder (h ▷ e) r
+    ≡ write_holder h r
+write_holder-same h e r f same =
+    first_below-same (suc (place h)) (λ c. is_writer (h ▷ e) r c) (λ c. is_writer h r c)
+    (λ c lt. same c)
+    ∙ first_below-more (place h) (λ c. is_writer h r c)
     ((Unheld-follows h f).writers r (place h) (omega arith))
 
 -- an entry that changes neither the consistency nor a count leaves the view of a mutex unchanged
 pub view-counts : (h : History) (e : Entry) (m : ℕ) → Follows h → kind_of (h ▷ e) m ≡ kind_of h m
-    → consistency (h ▷ e) m ≡ consistency h m → ((c : ℕ) → count (h ▷ e) m c ≡ count h m c)
+    → consistency (h ▷ e) m ≡ consistency h m → ((c : ℕ) → mutex_count (h ▷ e) m c
+    ≡ mutex_count h m c)
     → mutex_view (h ▷ e) m ≡ mutex_view h m
 view-counts h e m f k d n =
     view-same h (h ▷ e) m k d (owner-same h e m f (λ c. ap (nat_lt 0) (n c))) n
 
 -- an object is read as before if its kind, its consistency and all locks on it are as before
 pub quiet-parts : (h : History) (e : Entry) (o : ℕ) → Follows h → kind_of (h ▷ e) o ≡ kind_of h o
-    → consistency (h ▷ e) o ≡ consistency h o → ((c : ℕ) → count (h ▷ e) o c ≡ count h o c)
-    → ((c : ℕ) → writes (h ▷ e) o c ≡ writes h o c)
-    → ((c : ℕ) → reads (h ▷ e) o c ≡ reads h o c) → Quiet h (h ▷ e) o
+    → consistency (h ▷ e) o ≡ consistency h o → ((c : ℕ) → mutex_count (h ▷ e) o c
+    ≡ mutex_count h o c)
+    → ((c : ℕ) → is_writer (h ▷ e) o c ≡ is_writer h o c)
+    → ((c : ℕ) → read_count (h ▷ e) o c ≡ read_count h o c) → Quiet h (h ▷ e) o
 quiet-parts h e o f k d n w r =
     record {
       kind = k;
       view = view-counts h e o f k d n;
-      writer = writer-same h e o f w;
+      writer = write_holder-same h e o f w;
       reads = r;
     }
 
@@ -108,9 +112,9 @@ module _ {A : Type 0} where
       (old-readers h (Expire j) f s (λ w i e. i))
 
 -- the view of a mutex after its Yield
-yielded-view : (h : History) (m : ℕ) → Follows h
-    → mutex_view (h ▷ Yield m) m ≡ yielded (mutex_view h m)
-yielded-view h m f =
+mutex_after_yield-view : (h : History) (m : ℕ) → Follows h
+    → mutex_view (h ▷ Yield m) m ≡ mutex_after_yield (mutex_view h m)
+mutex_after_yield-view h m f =
     let here : (m == m) ≡ true = grind (arith, nat_tests) in
     let none : owner (h ▷ Yield m) m ≡ None = owner-yield h m m f ∙ rw here refl in
     let lost : consistency (h ▷ Yield m) m ≡ after_yield (consistency h m) = rw here refl in
@@ -122,12 +126,13 @@ module _ {A : Type 0} where
       (x : MutexState)
       → Follows h → Step h (Yield m) → ObjectsLook h look → look m ≡ Some (Mutex x)
       → ((o : ℕ) → look' o
-      ≡ cond (m == o) (Some (Mutex (record x { seen = yielded x.seen }))) (look o))
+      ≡ cond (m == o) (Some (Mutex (record x { view = mutex_after_yield x.view }))) (look o))
       → ObjectsLook (h ▷ Yield m) look'
   object_rows-yield h look look' m x f s t e change =
       object_rows-one h (h ▷ Yield m) look look' m
-      (Some (Mutex (record x { seen = yielded x.seen }))) t
+      (Some (Mutex (record x { view = mutex_after_yield x.view }))) t
       change (λ o ne. quiet-parts h (Yield m) o f refl (rw ne refl)
-      (λ c. count-yield h m o c ∙ rw ne refl) (λ c. refl) (λ c. refl))
+      (λ c. mutex_count-yield h m o c ∙ rw ne refl) (λ c. refl) (λ c. refl))
       (old-readers h (Yield m) f s (λ w i r. i))
-      (mutex-changed h (h ▷ Yield m) look t m x e refl yielded (yielded-view h m f))
+      (mutex-changed h (h ▷ Yield m) look t m x e refl mutex_after_yield
+      (mutex_after_yield-view h m f))

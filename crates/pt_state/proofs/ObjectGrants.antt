@@ -2,8 +2,8 @@
 use Rattle.std.proofs.Common.{◌≡◌, ℕ, suc, ◌+◌, Bool, true, false, cond, ◌&&◌, ◌==◌, nat_lt, Option}
 use Rattle.std.proofs.Common.{Some, None, is_none, refl, sym, ap, ◌∙◌, arith}
 use Rattle.std.proofs.lemmas.Bool.Decides.{nat_tests}
-use Rattle.pt_types.specs.MutexTable.{is_number, is_acquired}
-use Rattle.pt_mutex.specs.MutexState.{MutexState, acquired}
+use Rattle.pt_types.specs.MutexTable.{is_some_number, is_acquired}
+use Rattle.pt_mutex.specs.MutexState.{MutexState, mutex_after_acquire}
 use Rattle.pt_rwlock.specs.RwlockState.{RwlockState, reads_of, with_reads, ChangesRow}
 use Rattle.pt_model.specs.declared.entry.Entry.TheVariants.{Grant}
 use Rattle.pt_model.specs.Histories.{History, ◌▷◌}
@@ -13,26 +13,26 @@ use Rattle.pt_model.specs.declared.waiting_call.Role.{Role}
 use Rattle.pt_model.specs.declared.waiting_call.Role.TheVariants.{ForMutex, ForRead, ForWrite}
 use Rattle.pt_model.specs.declared.waiting_call.Role.TheVariants.{ForBarrier, ForCond}
 use Rattle.pt_model.specs.Searches.{In}
-use Rattle.pt_model.specs.WaitingCall.{mutex_of}
+use Rattle.pt_model.specs.WaitingCall.{final_mutex}
 use Rattle.pt_model.specs.Answers.{open_calls}
-use Rattle.pt_model.specs.Mutexes.{consistency, owner, count, count_if, mutex_view}
-use Rattle.pt_model.specs.Rwlocks.{reads_there, writes_there, writes, reads}
+use Rattle.pt_model.specs.Mutexes.{consistency, owner, mutex_count, mutex_count_if, mutex_view}
+use Rattle.pt_model.specs.Rwlocks.{is_reader_here, is_writer_here, is_writer, read_count}
 use Rattle.pt_model.specs.Grants.{is_grantable, grant_outcome}
 use Rattle.pt_model.specs.Steps.{Step, Follows}
 use Rattle.pt_model.proofs.Found.{one_open}
 use Rattle.pt_model.proofs.Services.{granted}
-use Rattle.pt_model.proofs.Unheld.{and_false, none_has, owner-has}
-use Rattle.pt_model.proofs.Counts.{count-grant}
+use Rattle.pt_model.proofs.NotOwned.{and_false, none_has, owner-has}
+use Rattle.pt_model.proofs.Counts.{mutex_count-grant}
 use Rattle.pt_model.proofs.Owners.{grants-owner, one_owner}
 use Rattle.pt_model.proofs.Holders.{owner-grant}
-use Rattle.pt_model.proofs.Rwlocks.{writes-grant, reads-grant, writes-writer}
+use Rattle.pt_model.proofs.Rwlocks.{is_writer-grant, read_count-grant, is_writer-write_holder}
 use Rattle.pt_records.specs.declared.objects.Object.{Object}
 use Rattle.pt_records.specs.declared.objects.Object.TheVariants.{Mutex, Rwlock}
 use Rattle.pt_records.specs.Objects.{IsRwlock, ObjectsLook}
 use Rattle.pt_state.proofs.OneObject.{OldReaders, Quiet, object_rows-quiet, object_rows-one}
 use Rattle.pt_state.proofs.OneObject.{mutex-changed, rwlock-changed}
-use Rattle.pt_state.proofs.ObjectEntries.{writer-same, quiet-parts, old-readers}
-use Rattle.pt_state.proofs.ObjectCalls.{reads-changed, rows-changed}
+use Rattle.pt_state.proofs.ObjectEntries.{write_holder-same, quiet-parts, old-readers}
+use Rattle.pt_state.proofs.ObjectCalls.{read_count-changed, rows-changed}
 use Rattle.pt_state.proofs.ObjectChanges.{view-parts}
 
 -- the history after the Grant of a call
@@ -44,7 +44,7 @@ pub granted-may : (h : History) (w : WaitingCall) → Follows h → In w (open_c
     → Step h (Grant w.place (grant_outcome h w)) → is_grantable h w ≡ true
 granted-may h w f i s =
     let g = granted h w.place (grant_outcome h w) f s in
-    ap (is_grantable h) (sym (one_open h f g.call w g.stands i g.came)) ∙ g.grantable
+    ap (is_grantable h) (sym (one_open h f g.call w g.is_waiting i g.came)) ∙ g.grantable
 
 both_false : (a b k : Bool) → (a && b) ≡ false → (a && (b && k)) ≡ false
 both_false true true k e = absurd cc
@@ -52,8 +52,8 @@ both_false true false k e = refl
 both_false false b k e = refl
 
 -- a call for a mutex takes no read-write lock
-mutex-only : (role : Role) (o m : ℕ) → mutex_of role o ≡ Some m → (b : Bool)
-    → (reads_there role b ≡ false) × (writes_there role b ≡ false)
+mutex-only : (role : Role) (o m : ℕ) → final_mutex role o ≡ Some m → (b : Bool)
+    → (is_reader_here role b ≡ false) × (is_writer_here role b ≡ false)
 mutex-only ForMutex o m e b = (refl, refl)
 mutex-only (ForCond k) o m e b = (refl, refl)
 mutex-only ForRead o m e b = absurd cc
@@ -64,49 +64,49 @@ module _ (h : History) (w : WaitingCall) (f : Follows h) (i : In w (open_calls h
     (s : Step h (Grant w.place (grant_outcome h w))) where
   -- a Grant that takes nothing of an object changes nothing of it
   quiet_grant : (o : ℕ)
-      → (is_acquired (grant_outcome h w) && is_number (mutex_of w.role w.object) o) ≡ false
-      → ((b : Bool) → reads_there w.role ((w.object == o) && b) ≡ false)
-      → ((b : Bool) → writes_there w.role ((w.object == o) && b) ≡ false)
+      → (is_acquired (grant_outcome h w) && is_some_number (final_mutex w.role w.object) o) ≡ false
+      → ((b : Bool) → is_reader_here w.role ((w.object == o) && b) ≡ false)
+      → ((b : Bool) → is_writer_here w.role ((w.object == o) && b) ≡ false)
       → Quiet h (after_grant h w) o
   quiet_grant o m r v =
       quiet-parts h (Grant w.place (grant_outcome h w)) o f refl refl
-      (λ d. count-grant h w (grant_outcome h w) o d f i
+      (λ d. mutex_count-grant h w (grant_outcome h w) o d f i
       ∙ rw (both_false (is_acquired (grant_outcome h w))
-      (is_number (mutex_of w.role w.object) o) (w.client == d) m) refl)
-      (λ d. writes-grant h w (grant_outcome h w) o d f i ∙ rw (v (w.client == d)) refl)
-      (λ d. reads-grant h w (grant_outcome h w) o d f i ∙ rw (r (w.client == d)) refl)
+      (is_some_number (final_mutex w.role w.object) o) (w.client == d) m) refl)
+      (λ d. is_writer-grant h w (grant_outcome h w) o d f i ∙ rw (v (w.client == d)) refl)
+      (λ d. read_count-grant h w (grant_outcome h w) o d f i ∙ rw (r (w.client == d)) refl)
 
   readers_grant : OldReaders h (after_grant h w)
   readers_grant = old-readers h (Grant w.place (grant_outcome h w)) f s (λ v j role. j)
 
   -- a client that has locks on a mutex when it is granted is the one that it is granted to
-  had_before : (m : ℕ) → mutex_of w.role w.object ≡ Some m
+  had_before : (m : ℕ) → final_mutex w.role w.object ≡ Some m
       → is_acquired (grant_outcome h w) ≡ true
-      → count_if h m (owner h m) ≡ count h m w.client
+      → mutex_count_if h m (owner h m) ≡ mutex_count h m w.client
   had_before m e x = go (owner h m) refl
     where
-      go : (o : Option ℕ) → owner h m ≡ o → count_if h m o ≡ count h m w.client
+      go : (o : Option ℕ) → owner h m ≡ o → mutex_count_if h m o ≡ mutex_count h m w.client
       go None k =
-          let none : nat_lt 0 (count h m w.client) ≡ false =
+          let none : nat_lt 0 (mutex_count h m w.client) ≡ false =
           none_has h f m (ap is_none k) w.client in
           grind (arith, nat_tests)
       go (Some d) k =
           let same : d ≡ w.client =
           grants-owner h w m f (granted-may h w f i s) e x (one_owner h f m) d
           (owner-has h m d k) in
-          ap (count h m) same
+          ap (mutex_count h m) same
 
   -- a mutex that is granted, and that its call acquires
-  granted_view : (m : ℕ) → mutex_of w.role w.object ≡ Some m
+  granted_view : (m : ℕ) → final_mutex w.role w.object ≡ Some m
       → is_acquired (grant_outcome h w) ≡ true
-      → mutex_view (after_grant h w) m ≡ acquired (mutex_view h m) w.client
+      → mutex_view (after_grant h w) m ≡ mutex_after_acquire (mutex_view h m) w.client
   granted_view m e x =
       let here : (m == m) ≡ true = grind (arith, nat_tests) in
       let same : (w.client == w.client) ≡ true = grind (arith, nat_tests) in
-      let more : count (after_grant h w) m w.client ≡ suc (count h m w.client) =
-      count-grant h w (grant_outcome h w) m w.client f i ∙ rw (x, e, here, same) refl in
+      let more : mutex_count (after_grant h w) m w.client ≡ suc (mutex_count h m w.client) =
+      mutex_count-grant h w (grant_outcome h w) m w.client f i ∙ rw (x, e, here, same) refl in
       view-parts (after_grant h w) m (kind_of h m) (consistency h m) (Some w.client)
-      (count h m w.client + 1) refl refl
+      (mutex_count h m w.client + 1) refl refl
       (owner-grant h w f i s m ∙ rw (x, e, here) refl) (omega (arith, more))
       ∙ rw (had_before m e x) refl
 
@@ -117,22 +117,22 @@ module _ (h : History) (w : WaitingCall) (f : Follows h) (i : In w (open_calls h
   granted_read r r' old role same row =
       let here : (w.object == w.object) ≡ true = grind (arith, nat_tests) in
       record {
-        writer = same ∙ (old.writer ∙ sym (writer-same h (Grant w.place (grant_outcome h w))
-            w.object f (λ d. writes-grant h w (grant_outcome h w) w.object d f i
+        writer = same ∙ (old.writer ∙ sym (write_holder-same h (Grant w.place (grant_outcome h w))
+            w.object f (λ d. is_writer-grant h w (grant_outcome h w) w.object d f i
             ∙ rw role refl)));
-        reads = λ d. reads-changed r r' w.client (reads_of r w.client + 1) row d
-            ∙ sym (reads-grant h w (grant_outcome h w) w.object d f i
+        reads = λ d. read_count-changed r r' w.client (reads_of r w.client + 1) row d
+            ∙ sym (read_count-grant h w (grant_outcome h w) w.object d f i
             ∙ rw (role, here) (more d (w.client == d) refl));
         rows = λ v j k at. rows-changed r r' w.client (reads_of r w.client + 1) row v.client
             (old.rows v (readers_grant v j k) k at);
       }
     where
       more : (d : ℕ) (b : Bool) → (w.client == d) ≡ b
-          → cond b (suc (reads h w.object d)) (reads h w.object d)
+          → cond b (suc (read_count h w.object d)) (read_count h w.object d)
           ≡ cond b (reads_of r w.client + 1) (reads_of r d)
       more d true e =
           let is : w.client ≡ d = grind (arith, nat_tests) in
-          let n : reads_of r w.client ≡ reads h w.object d =
+          let n : reads_of r w.client ≡ read_count h w.object d =
           ap (reads_of r) is ∙ old.reads d in
           omega (arith, n)
       more d false e = sym (old.reads d)
@@ -143,13 +143,13 @@ module _ (h : History) (w : WaitingCall) (f : Follows h) (i : In w (open_calls h
   granted_write r old role =
       let here : (w.object == w.object) ≡ true = grind (arith, nat_tests) in
       let same : (w.client == w.client) ≡ true = grind (arith, nat_tests) in
-      let wrote : writes (after_grant h w) w.object w.client ≡ true =
-      writes-grant h w (grant_outcome h w) w.object w.client f i
+      let wrote : is_writer (after_grant h w) w.object w.client ≡ true =
+      is_writer-grant h w (grant_outcome h w) w.object w.client f i
       ∙ rw (role, here, same) refl in
       record {
-        writer = sym (writes-writer (after_grant h w) (f, s) w.object w.client wrote);
+        writer = sym (is_writer-write_holder (after_grant h w) (f, s) w.object w.client wrote);
         reads = λ d. old.reads d
-            ∙ sym (reads-grant h w (grant_outcome h w) w.object d f i ∙ rw role refl);
+            ∙ sym (read_count-grant h w (grant_outcome h w) w.object d f i ∙ rw role refl);
         rows = λ v j k at. old.rows v (readers_grant v j k) k at;
       }
 
@@ -158,28 +158,29 @@ module _ {A : Type 0} (h : History) (look : ℕ → Option (Object A)) (w : Wait
     (t : ObjectsLook h look) where
   -- a call that is granted a mutex acquires it
   pub object_rows-grant-mutex : (look' : ℕ → Option (Object A)) (m : ℕ) (x : MutexState)
-      → mutex_of w.role w.object ≡ Some m → look m ≡ Some (Mutex x)
+      → final_mutex w.role w.object ≡ Some m → look m ≡ Some (Mutex x)
       → is_acquired (grant_outcome h w) ≡ true
       → ((o : ℕ) → look' o
-      ≡ cond (m == o) (Some (Mutex (record x { seen = acquired x.seen w.client }))) (look o))
+      ≡ cond (m == o) (Some (Mutex (record x { view = mutex_after_acquire x.view w.client })))
+      (look o))
       → ObjectsLook (after_grant h w) look'
-  object_rows-grant-mutex look' m x e k told change =
+  object_rows-grant-mutex look' m x e k replies change =
       object_rows-one h (after_grant h w) look look' m
-      (Some (Mutex (record x { seen = acquired x.seen w.client }))) t change
+      (Some (Mutex (record x { view = mutex_after_acquire x.view w.client }))) t change
       (λ o ne. quiet_grant h w f i s o
       (rw e (and_false (is_acquired (grant_outcome h w)) (m == o) ne))
       (λ b. (mutex-only w.role w.object m e ((w.object == o) && b)).0)
       (λ b. (mutex-only w.role w.object m e ((w.object == o) && b)).1))
       (readers_grant h w f i s)
-      (mutex-changed h (after_grant h w) look t m x k refl (λ v. acquired v w.client)
-      (granted_view h w f i s m e told))
+      (mutex-changed h (after_grant h w) look t m x k refl (λ v. mutex_after_acquire v w.client)
+      (granted_view h w f i s m e replies))
 
   -- one that is answered that the mutex is lost changes nothing
-  pub object_rows-grant-lost : (m : ℕ) → mutex_of w.role w.object ≡ Some m
+  pub object_rows-grant-lost : (m : ℕ) → final_mutex w.role w.object ≡ Some m
       → is_acquired (grant_outcome h w) ≡ false → ObjectsLook (after_grant h w) look
-  object_rows-grant-lost m e told =
+  object_rows-grant-lost m e replies =
       object_rows-quiet h (after_grant h w) look t
-      (λ o. quiet_grant h w f i s o (rw told refl)
+      (λ o. quiet_grant h w f i s o (rw replies refl)
       (λ b. (mutex-only w.role w.object m e ((w.object == o) && b)).0)
       (λ b. (mutex-only w.role w.object m e ((w.object == o) && b)).1))
       (readers_grant h w f i s)

@@ -3,25 +3,26 @@ use Rattle.std.proofs.Common.{◌≡◌, ℕ, suc, ◌-◌, Bool, true, false, c
 use Rattle.std.proofs.Common.{None, option_map, refl, sym, ap, ◌∙◌, subst, arith}
 use Rattle.std.proofs.lemmas.Bool.{false≢true}
 use Rattle.std.proofs.lemmas.Bool.Decides.{nat_tests}
-use Rattle.pt_types.specs.declared.call.Call.{Call as Asked}
+use Rattle.pt_types.specs.declared.call.Call.{Call as FunctionCall}
 use Rattle.pt_types.specs.declared.call.ObjectKind.{ObjectKind}
 use Rattle.pt_types.specs.declared.outcome.Outcome.{Outcome}
 use Rattle.pt_types.specs.declared.outcome.Outcome.TheVariants.{Done, Serial, Eperm, Einval, Ebusy}
 use Rattle.pt_types.specs.declared.outcome.Outcome.TheVariants.{Eagain, Edeadlk, Etimedout}
 use Rattle.pt_types.specs.declared.outcome.Outcome.TheVariants.{Eownerdead, Enotrecoverable}
 use Rattle.pt_types.specs.Names.{same_name}
-use Rattle.pt_types.specs.Operations.{Operation, Makes, Ends, Acquires, Unlocks, Restores}
-use Rattle.pt_types.specs.Operations.{Rwunlocks, Awaits, Signals, Broadcasts, Arrives, operation}
+use Rattle.pt_types.specs.Operations.{Operation, Inits, Ends, Acquires, Unlocks, Restores}
+use Rattle.pt_types.specs.Operations.{Rwunlocks, CondWaits, Signals, Broadcasts, BarrierWaits, operation}
 use Rattle.pt_types.specs.Operations.{clock_of}
 use Rattle.pt_types.specs.declared.operations.ObjectClass.{ObjectClass}
 use Rattle.pt_types.specs.declared.operations.ObjectClass.TheVariants.{Mutex as MutexClass}
 use Rattle.pt_types.specs.declared.operations.ObjectClass.TheVariants.{Rwlock as RwlockClass}
 use Rattle.pt_types.specs.declared.operations.LockKind.TheVariants.{MutexLock, ReadLock, WriteLock}
-use Rattle.pt_types.specs.MutexTable.{is_number}
+use Rattle.pt_types.specs.MutexTable.{is_some_number}
 use Rattle.pt_types.specs.Tables.{reply}
 use Rattle.pt_model.specs.declared.entry.Entry.TheVariants.{Call}
 use Rattle.pt_model.specs.Histories.{History, place}
-use Rattle.pt_model.specs.Objects.{object_named, find, objects_by_operation, objects_by, objects}
+use Rattle.pt_model.specs.Objects.{object_named, find_object, object_count_by_operation}
+use Rattle.pt_model.specs.Objects.{object_count_by, object_count}
 use Rattle.pt_model.specs.Records.{Object as Named_object}
 use Rattle.pt_model.specs.Verdicts.{verdict}
 use Rattle.pt_model.specs.Steps.{Follows}
@@ -61,7 +62,7 @@ names_kept at (Creates m kind) before n e = absurd (false≢true e)
 names_kept at (Removes m class q) before n e = absurd (false≢true e)
 
 -- what a name means after a call
-pub numbered-call : (h : History) (c : ℕ) (call : Asked) (E : Effect) → does h c call ≡ E
+pub numbered-call : (h : History) (c : ℕ) (call : FunctionCall) (E : Effect) → does h c call ≡ E
     → (n : List ℕ) → numbered (behind h c call) n
     ≡ option_map (λ (x : Named_object). x.number)
     (named_effect (place h) E (object_named h n) n)
@@ -79,7 +80,7 @@ numbered_cond true x y = refl
 numbered_cond false x y = refl
 
 -- a call that is no init and no destroy leaves the names unchanged
-pub names-same : (h : History) (c : ℕ) (call : Asked) (names : List ℕ → Option ℕ)
+pub names-same : (h : History) (c : ℕ) (call : FunctionCall) (names : List ℕ → Option ℕ)
     → names_none (does h c call) ≡ true → NamesLook h names → NamesLook (behind h c call) names
 names-same h c call names e t n =
     t n ∙ sym (numbered-call h c call (does h c call) refl n
@@ -87,7 +88,7 @@ names-same h c call names e t n =
     (names_kept (place h) (does h c call) (object_named h n) n e))
 
 -- an init names its object
-pub names-creates : (h : History) (c : ℕ) (call : Asked) (names names' : List ℕ → Option ℕ)
+pub names-creates : (h : History) (c : ℕ) (call : FunctionCall) (names names' : List ℕ → Option ℕ)
     (m : List ℕ) (kind : ObjectKind) → does h c call ≡ Creates m kind → NamesLook h names
     → ((n : List ℕ) → names' n ≡ cond (same_name m n) (Some (place h)) (names n))
     → NamesLook (behind h c call) names'
@@ -98,7 +99,7 @@ names-creates h c call names names' m kind e t change n =
     (object_named h n)))
 
 -- a destroy takes its name away
-pub names-removes : (h : History) (c : ℕ) (call : Asked) (names names' : List ℕ → Option ℕ)
+pub names-removes : (h : History) (c : ℕ) (call : FunctionCall) (names names' : List ℕ → Option ℕ)
     (m : List ℕ) (class : ObjectClass) (q : ℕ) → does h c call ≡ Removes m class q
     → NamesLook h names
     → ((n : List ℕ) → names' n ≡ cond (same_name m n) None (names n))
@@ -131,17 +132,18 @@ removed-name h c n class q a =
 
 -- so the name of a destroyed object is the only one that means its number
 pub removed-only : (h : History) → Follows h → (c : ℕ) (m : List ℕ) (class : ObjectClass) (q : ℕ)
-    → Allowed h c (Removes m class q) → (n : List ℕ) → same_name m n ≡ is_number (numbered h n) q
-removed-only h f c m class q a n = go (same_name m n) (is_number (numbered h n) q) refl refl
+    → Allowed h c (Removes m class q) → (n : List ℕ) → same_name m n
+    ≡ is_some_number (numbered h n) q
+removed-only h f c m class q a n = go (same_name m n) (is_some_number (numbered h n) q) refl refl
   where
-    go : (b d : Bool) → same_name m n ≡ b → is_number (numbered h n) q ≡ d → b ≡ d
+    go : (b d : Bool) → same_name m n ≡ b → is_some_number (numbered h n) q ≡ d → b ≡ d
     go true true eb ed = refl
     go false false eb ed = refl
     go true false eb ed =
         let same : m ≡ n = same_named m n eb in
         let here : numbered h n ≡ Some q =
         ap (numbered h) (sym same) ∙ removed-name h c m class q a in
-        let yes : is_number (numbered h n) q ≡ true =
+        let yes : is_some_number (numbered h n) q ≡ true =
         rw here (let t : (q == q) ≡ true = grind (arith, nat_tests) in t) in
         sym yes ∙ ed
     go false true eb ed =
@@ -151,15 +153,15 @@ removed-only h f c m class q a n = go (same_name m n) (is_number (numbered h n) 
         sym (sym (named_same m n same) ∙ eb)
 
 -- a table that drops the number of the destroyed object drops its name alone
-pub names-drops : (h : History) (c : ℕ) (call : Asked) (names names' : List ℕ → Option ℕ)
+pub names-drops : (h : History) (c : ℕ) (call : FunctionCall) (names names' : List ℕ → Option ℕ)
     (m : List ℕ) (class : ObjectClass) (q : ℕ) → Follows h → does h c call ≡ Removes m class q
     → NamesLook h names
-    → ((n : List ℕ) → names' n ≡ cond (is_number (names n) q) None (names n))
+    → ((n : List ℕ) → names' n ≡ cond (is_some_number (names n) q) None (names n))
     → NamesLook (behind h c call) names'
 names-drops h c call names names' m class q f e t change =
     names-removes h c call names names' m class q e t
     (λ n. change n ∙ ap (λ b. cond b None (names n))
-    (ap (λ o. is_number o q) (t n)
+    (ap (λ o. is_some_number o q) (t n)
     ∙ sym (removed-only h f c m class q
     (subst (λ (E : Effect). Allowed h c E) e (allowed h c call)) n)))
 
@@ -170,32 +172,33 @@ objects_effect (Removes n class q) before = before - 1
 objects_effect _ before = before
 
 objects_done : (h : History) (before : ℕ) (d : Operation)
-    → ((n : List ℕ) (class : ObjectClass) → d ≡ Ends n class → (o : ℕ) × (find h n class ≡ Some o))
-    → objects_by_operation d before ≡ objects_effect (succeeds h d) before
-objects_done h before (Makes n kind) known = refl
-objects_done h before (Ends n class) known = rw (known n class refl).1 refl
-objects_done h before (Acquires n MutexLock how) known =
+    → ((n : List ℕ) (class : ObjectClass) → d ≡ Ends n class → (o : ℕ) × (find_object h n class
+    ≡ Some o))
+    → object_count_by_operation d before ≡ objects_effect (succeeds h d) before
+objects_done h before (Inits n kind) has_call = refl
+objects_done h before (Ends n class) has_call = rw (has_call n class refl).1 refl
+objects_done h before (Acquires n MutexLock how) has_call =
     found_or (λ E. objects_effect E before) Relocks (λ o. before) refl (λ o. refl)
-    (find h n MutexClass)
-objects_done h before (Acquires n ReadLock how) known = refl
-objects_done h before (Acquires n WriteLock how) known = refl
-objects_done h before (Unlocks n) known =
+    (find_object h n MutexClass)
+objects_done h before (Acquires n ReadLock how) has_call = refl
+objects_done h before (Acquires n WriteLock how) has_call = refl
+objects_done h before (Unlocks n) has_call =
     found_or (λ E. objects_effect E before) Frees (λ o. before) refl (λ o. refl)
-    (find h n MutexClass)
-objects_done h before (Restores n) known =
+    (find_object h n MutexClass)
+objects_done h before (Restores n) has_call =
     found_or (λ E. objects_effect E before) Mends (λ o. before) refl (λ o. refl)
-    (find h n MutexClass)
-objects_done h before (Rwunlocks n) known =
+    (find_object h n MutexClass)
+objects_done h before (Rwunlocks n) has_call =
     found_or (λ E. objects_effect E before) Returns (λ o. before) refl (λ o. refl)
-    (find h n RwlockClass)
-objects_done h before (Awaits n k deadline) known = refl
-objects_done h before (Signals n) known = refl
-objects_done h before (Broadcasts n) known = refl
-objects_done h before (Arrives n) known = refl
+    (find_object h n RwlockClass)
+objects_done h before (CondWaits n k deadline) has_call = refl
+objects_done h before (Signals n) has_call = refl
+objects_done h before (Broadcasts n) has_call = refl
+objects_done h before (BarrierWaits n) has_call = refl
 
-objects_reply : (h : History) (c : ℕ) (call : Asked) (r : Option Outcome) (before : ℕ)
+objects_reply : (h : History) (c : ℕ) (call : FunctionCall) (r : Option Outcome) (before : ℕ)
     → Resolved h call r
-    → objects_by (Call c call r) before ≡ objects_effect (effect h c call r) before
+    → object_count_by (Call c call r) before ≡ objects_effect (effect h c call r) before
 objects_reply h c call None before s =
     stays_same (λ E. objects_effect E before) before refl (λ w. refl) h c
     (clock_of call) (operation call)
@@ -212,10 +215,10 @@ objects_reply h c call (Some Eownerdead) before s = refl
 objects_reply h c call (Some Enotrecoverable) before s = refl
 
 -- how many objects there are after a call
-pub objects-call : (h : History) (c : ℕ) (call : Asked)
-    → objects (behind h c call) ≡ objects_effect (does h c call) (objects h)
-objects-call h c call =
-    objects_reply h c call (reply (verdict h c call)) (objects h) (resolved h c call)
+pub object_count-call : (h : History) (c : ℕ) (call : FunctionCall)
+    → object_count (behind h c call) ≡ objects_effect (does h c call) (object_count h)
+object_count-call h c call =
+    objects_reply h c call (reply (verdict h c call)) (object_count h) (resolved h c call)
 
 objects_kept : (E : Effect) (before : ℕ) → names_none E ≡ true → objects_effect E before ≡ before
 objects_kept Idle before t = refl
@@ -229,20 +232,20 @@ objects_kept (Creates m kind) before t = absurd (false≢true t)
 objects_kept (Removes m class q) before t = absurd (false≢true t)
 
 -- as many as before, if the call is no init and no destroy
-pub objects-same : (h : History) (c : ℕ) (call : Asked) → names_none (does h c call) ≡ true
-    → objects (behind h c call) ≡ objects h
-objects-same h c call e =
-    objects-call h c call ∙ objects_kept (does h c call) (objects h) e
+pub object_count-same : (h : History) (c : ℕ) (call : FunctionCall) → names_none (does h c call) ≡ true
+    → object_count (behind h c call) ≡ object_count h
+object_count-same h c call e =
+    object_count-call h c call ∙ objects_kept (does h c call) (object_count h) e
 
 -- one more after an init
-pub objects-creates : (h : History) (c : ℕ) (call : Asked) (m : List ℕ) (kind : ObjectKind)
-    → does h c call ≡ Creates m kind → objects (behind h c call) ≡ suc (objects h)
-objects-creates h c call m kind e =
-    objects-call h c call ∙ ap (λ E. objects_effect E (objects h)) e
+pub object_count-creates : (h : History) (c : ℕ) (call : FunctionCall) (m : List ℕ) (kind : ObjectKind)
+    → does h c call ≡ Creates m kind → object_count (behind h c call) ≡ suc (object_count h)
+object_count-creates h c call m kind e =
+    object_count-call h c call ∙ ap (λ E. objects_effect E (object_count h)) e
 
 -- one less after a destroy
-pub objects-removes : (h : History) (c : ℕ) (call : Asked) (m : List ℕ) (class : ObjectClass)
+pub object_count-removes : (h : History) (c : ℕ) (call : FunctionCall) (m : List ℕ) (class : ObjectClass)
     (q : ℕ)
-    → does h c call ≡ Removes m class q → objects (behind h c call) ≡ objects h - 1
-objects-removes h c call m class q e =
-    objects-call h c call ∙ ap (λ E. objects_effect E (objects h)) e
+    → does h c call ≡ Removes m class q → object_count (behind h c call) ≡ object_count h - 1
+object_count-removes h c call m class q e =
+    object_count-call h c call ∙ ap (λ E. objects_effect E (object_count h)) e

@@ -2,26 +2,26 @@
 use Rattle.std.proofs.Common.{◌≡◌, ℕ, Bool, true, false, cond, ◌==◌, Option, Some, None, is_some}
 use Rattle.std.proofs.Common.{option_map, refl, sym, ap, ◌∙◌, subst, arith}
 use Rattle.std.proofs.lemmas.Bool.Decides.{nat_tests}
-use Rattle.pt_types.specs.MutexTable.{is_number}
+use Rattle.pt_types.specs.MutexTable.{is_some_number}
 use Rattle.pt_types.specs.declared.views.MutexView.{MutexView}
 use Rattle.pt_types.specs.declared.call.MutexKind.{MutexKind}
 use Rattle.pt_types.specs.declared.call.ObjectKind.TheVariants as kind
 use Rattle.pt_mutex.specs.MutexState.{MutexState}
-use Rattle.pt_rwlock.specs.RwlockState.{RwlockState, row_of}
+use Rattle.pt_rwlock.specs.RwlockState.{RwlockState, reads_in_row}
 use Rattle.pt_model.specs.Histories.{History}
 use Rattle.pt_model.specs.Objects.{kind_of}
 use Rattle.pt_model.specs.declared.waiting_call.WaitingCall.{WaitingCall}
 use Rattle.pt_model.specs.declared.waiting_call.Role.TheVariants.{ForRead}
 use Rattle.pt_model.specs.Searches.{In}
 use Rattle.pt_model.specs.Answers.{open_calls}
-use Rattle.pt_model.specs.Mutexes.{consistency, owner, count, count_if, mutex_view}
-use Rattle.pt_model.specs.Rwlocks.{writer, reads}
+use Rattle.pt_model.specs.Mutexes.{consistency, owner, mutex_count, mutex_count_if, mutex_view}
+use Rattle.pt_model.specs.Rwlocks.{write_holder, read_count}
 use Rattle.pt_records.specs.declared.objects.Object.{Object}
 use Rattle.pt_records.specs.declared.objects.Object.TheVariants.{Mutex, Rwlock}
 use Rattle.pt_records.specs.Objects.{IsMutex, IsRwlock, kind_in_row, ObjectsLook}
 
 -- a number that is known to be this one
-pub number-is : (o : Option ℕ) (c : ℕ) → is_number o c ≡ true → o ≡ Some c
+pub number-is : (o : Option ℕ) (c : ℕ) → is_some_number o c ≡ true → o ≡ Some c
 number-is None c e = absurd cc
 number-is (Some d) c e = let same : d ≡ c = grind (arith, nat_tests) in ap Some same
 
@@ -29,7 +29,7 @@ number-is (Some d) c e = let same : d ≡ c = grind (arith, nat_tests) in ap Som
 abbrev pub HasRows : History → ℕ → RwlockState → Type 0
 HasRows h o r =
     (w : WaitingCall) → In w (open_calls h) → w.role ≡ ForRead → w.object ≡ o
-    → is_some (row_of r w.client) ≡ true
+    → is_some (reads_in_row r w.client) ≡ true
 
 -- whoever waits for a read lock did so before
 abbrev pub OldReaders : (h g : History) → Type 0
@@ -39,16 +39,16 @@ OldReaders h g = (w : WaitingCall) → In w (open_calls g) → w.role ≡ ForRea
 pub record Quiet (h g : History) (o : ℕ) : Type 0 where
   pub kind : kind_of g o ≡ kind_of h o
   pub view : mutex_view g o ≡ mutex_view h o
-  pub writer : writer g o ≡ writer h o
-  pub reads : (c : ℕ) → reads g o c ≡ reads h o c
+  pub writer : write_holder g o ≡ write_holder h o
+  pub reads : (c : ℕ) → read_count g o c ≡ read_count h o c
 
 -- the view of a mutex is as before if its parts are as before
 pub view-same : (h g : History) (m : ℕ) → kind_of g m ≡ kind_of h m
     → consistency g m ≡ consistency h m → owner g m ≡ owner h m
-    → ((c : ℕ) → count g m c ≡ count h m c) → mutex_view g m ≡ mutex_view h m
+    → ((c : ℕ) → mutex_count g m c ≡ mutex_count h m c) → mutex_view g m ≡ mutex_view h m
 view-same h g m k d o n = rw (k, d, o, counted (owner h m)) refl
   where
-    counted : (c : Option ℕ) → count_if g m c ≡ count_if h m c
+    counted : (c : Option ℕ) → mutex_count_if g m c ≡ mutex_count_if h m c
     counted None = refl
     counted (Some c) = n c
 
@@ -129,7 +129,7 @@ module _ {A : Type 0} where
 
   -- a stored mutex is right if it is stored as it is seen
   pub kept-mutex : (g : History) (m : ℕ) (y : MutexState) (k : MutexKind) (robust : Bool)
-      → kind_of g m ≡ Some (kind.Mutex k robust) → y.seen ≡ mutex_view g m → y.bound_waits ≡ 0
+      → kind_of g m ≡ Some (kind.Mutex k robust) → y.view ≡ mutex_view g m → y.bound_waits ≡ 0
       → IsKept g m (Some (Mutex y))
   kept-mutex g m y k robust e s b =
       record {
@@ -142,10 +142,10 @@ module _ {A : Type 0} where
   pub mutex-changed : (h g : History) (look : ℕ → Option (Object A)) → ObjectsLook h look
       → (m : ℕ) (x : MutexState) → look m ≡ Some (Mutex x) → kind_of g m ≡ kind_of h m
       → (change : MutexView → MutexView) → mutex_view g m ≡ change (mutex_view h m)
-      → IsKept g m (Some (Mutex (record x { seen = change x.seen })))
+      → IsKept g m (Some (Mutex (record x { view = change x.view })))
   mutex-changed h g look t m x e k change v =
       let old = t.mutexes m x e in
-      kept-mutex g m (record x { seen = change x.seen }) x.seen.kind x.seen.robust
+      kept-mutex g m (record x { view = change x.view }) x.view.kind x.view.robust
       (k ∙ (sym (t.kinds m) ∙ ap (option_map kind_in_row) e)) (ap change old.0 ∙ sym v) old.1
 
   -- a stored read-write lock is right if it is stored as it is read off the history

@@ -9,8 +9,8 @@ use Rattle.pt_table.specs.declared.clients.ClientRow.{ClientRow}
 use Rattle.pt_table.specs.ClientRows.{client_at, client_value, with_client}
 use Rattle.pt_model.specs.Histories.{History}
 use Rattle.pt_records.specs.declared.clients.Caller.{Caller}
-use Rattle.pt_records.specs.Callers.{Once, CallersLook, AreCallers, open_in}
-use Rattle.pt_records.specs.Chained.{unowned, without_owned}
+use Rattle.pt_records.specs.Callers.{HasDistinctNumbers, CallersLook, AreCallers, open_in}
+use Rattle.pt_records.specs.Chained.{rows_without_owned, without_owned}
 use Rattle.pt_records.specs.Writes.{WritesCaller}
 use Rattle.pt_records.proofs.CallerWrites.{client-there, writes-caller}
 
@@ -60,7 +60,8 @@ look-bare h look other same l =
 
 -- and rows that find the same are right for the same history
 pub callers-bare : (h : History) (old new : List (ClientRow Caller))
-    → FindsSame (client_value old) (client_value new) → length new ≡ length old → Once new
+    → FindsSame (client_value old) (client_value new) → length new ≡ length old
+    → HasDistinctNumbers new
     → AreCallers h old → AreCallers h new
 callers-bare h old new same many once a =
     record {
@@ -70,18 +71,19 @@ callers-bare h old new same many once a =
     }
 
 bare-at : (rows : List (ClientRow Caller)) (n : ℕ)
-    → client_at (unowned rows) n ≡ option_map without_owned (client_at rows n)
+    → client_at (rows_without_owned rows) n ≡ option_map without_owned (client_at rows n)
 bare-at [] n = refl
 bare-at (r ∷ rows) n = go (bare-at rows n) (nat_eq n r.number)
   where
-    go : client_at (unowned rows) n ≡ option_map without_owned (client_at rows n) → (b : Bool)
-        → cond b (Some (without_owned r)) (client_at (unowned rows) n)
+    go : client_at (rows_without_owned rows) n ≡ option_map without_owned (client_at rows n)
+        → (b : Bool)
+        → cond b (Some (without_owned r)) (client_at (rows_without_owned rows) n)
         ≡ option_map without_owned (cond b (Some r) (client_at rows n))
     go ih true = refl
     go ih false = ih
 
 bare-value : (rows : List (ClientRow Caller)) (n : ℕ)
-    → client_value (unowned rows) n ≡ option_map bare (client_value rows n)
+    → client_value (rows_without_owned rows) n ≡ option_map bare (client_value rows n)
 bare-value rows n = ap (option_map (λ row. row.value)) (bare-at rows n) ∙ go (client_at rows n)
   where
     go : (o : Option (ClientRow Caller))
@@ -91,41 +93,47 @@ bare-value rows n = ap (option_map (λ row. row.value)) (bare-at rows n) ∙ go 
     go (Some r) = refl
 
 bare-any : (n : ℕ) (rows : List (ClientRow Caller))
-    → list_any (λ other. other.number == n) (unowned rows)
+    → list_any (λ other. other.number == n) (rows_without_owned rows)
     ≡ list_any (λ other. other.number == n) rows
 bare-any n [] = refl
 bare-any n (r ∷ rows) = ap (λ b. (r.number == n) || b) (bare-any n rows)
 
-once-bare : (rows : List (ClientRow Caller)) → Once rows → Once (unowned rows)
+once-bare : (rows : List (ClientRow Caller)) → HasDistinctNumbers rows
+    → HasDistinctNumbers (rows_without_owned rows)
 once-bare [] o = tt
 once-bare (r ∷ rows) o = (bare-any r.number rows ∙ o.0, once-bare rows o.1)
 
-bare-once : (rows : List (ClientRow Caller)) → Once (unowned rows) → Once rows
+bare-once : (rows : List (ClientRow Caller)) → HasDistinctNumbers (rows_without_owned rows)
+    → HasDistinctNumbers rows
 bare-once [] o = tt
 bare-once (r ∷ rows) o = (sym (bare-any r.number rows) ∙ o.0, bare-once rows o.1)
 
-module _ (old new : List (ClientRow Caller)) (e : unowned new ≡ unowned old) where
+module _ (old new : List (ClientRow Caller)) (e : rows_without_owned new
+    ≡ rows_without_owned old) where
   -- rows that are the same but for what is owned find the same
-  pub finds-unowned : FindsSame (client_value old) (client_value new)
-  finds-unowned d =
+  pub finds-rows_without_owned : FindsSame (client_value old) (client_value new)
+  finds-rows_without_owned d =
       sym (bare-value new d) ∙ (ap (λ rows. client_value rows d) e ∙ bare-value old d)
 
-  many-unowned : length new ≡ length old
-  many-unowned = sym (length-map new without_owned) ∙ (ap length e ∙ length-map old without_owned)
+  many-rows_without_owned : length new ≡ length old
+  many-rows_without_owned = sym (length-map new without_owned) ∙ (ap length e
+      ∙ length-map old without_owned)
 
-  once-unowned : Once old → Once new
-  once-unowned o = bare-once new (subst Once (sym e) (once-bare old o))
+  once-rows_without_owned : HasDistinctNumbers old → HasDistinctNumbers new
+  once-rows_without_owned o = bare-once new (subst HasDistinctNumbers (sym e) (once-bare old o))
 
   -- so they are the rows of the same clients
-  pub callers-unowned : (h : History) → AreCallers h old → AreCallers h new
-  callers-unowned h a =
-      callers-bare h old new finds-unowned many-unowned (once-unowned a.once) a
+  pub callers-rows_without_owned : (h : History) → AreCallers h old → AreCallers h new
+  callers-rows_without_owned h a =
+      callers-bare h old new finds-rows_without_owned many-rows_without_owned
+      (once-rows_without_owned a.once) a
 
   -- a client that has a row in one list has a row in the other
-  pub there-unowned : (c : ℕ) → (v : Caller) × (client_value old c ≡ Some v)
+  pub there-rows_without_owned : (c : ℕ) → (v : Caller) × (client_value old c ≡ Some v)
       → (v : Caller) × (client_value new c ≡ Some v)
-  there-unowned c there =
-      let v = found-bare (client_value new c) (client_value old c) (sym (finds-unowned c)) there.0
+  there-rows_without_owned c there =
+      let v = found-bare (client_value new c) (client_value old c) (sym
+      (finds-rows_without_owned c)) there.0
       there.1 in
       (v.0, v.1)
 
@@ -139,21 +147,23 @@ module _ (old new : List (ClientRow Caller)) (e : unowned new ≡ unowned old) w
       go : (b : Bool) → option_map bare (cond b (Some y) (client_value new d))
           ≡ option_map bare (cond b (Some x) (client_value old d))
       go true = ap Some same
-      go false = finds-unowned d
+      go false = finds-rows_without_owned d
 
   -- if one row is written in both lists, they are both right if one is
-  pub written-unowned : (g h : History) (c : ℕ) (change : Caller → Caller)
+  pub written-rows_without_owned : (g h : History) (c : ℕ) (change : Caller → Caller)
       → ((u v : Caller) → bare u ≡ bare v → bare (change u) ≡ bare (change v))
       → AreCallers g old
       → ((rows : List (ClientRow Caller)) (v : Caller) → client_value old c ≡ Some v
       → WritesCaller old rows c (change v) → AreCallers h rows)
       → (rows : List (ClientRow Caller)) (v : Caller) → client_value new c ≡ Some v
       → WritesCaller new rows c (change v) → AreCallers h rows
-  written-unowned g h c change alike a right rows v at w =
-      let u = found-bare (client_value old c) (client_value new c) (finds-unowned c) v at in
+  written-rows_without_owned g h c change alike a right rows v at w =
+      let u = found-bare (client_value old c) (client_value new c)
+      (finds-rows_without_owned c) v at in
       let was = with_client old c (change u.0) in
       let wrote = writes-caller old c (change u.0) (client-there old c u.0 u.1) in
       callers-bare h was rows
       (finds-written was rows c (change u.0) (change v) wrote w (alike v u.0 u.2))
-      (w.many ∙ (many-unowned ∙ sym wrote.many)) (w.once (once-unowned a.once))
+      (w.many ∙ (many-rows_without_owned
+      ∙ sym wrote.many)) (w.once (once-rows_without_owned a.once))
       (right was u.0 u.1 wrote)

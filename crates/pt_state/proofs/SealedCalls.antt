@@ -9,13 +9,13 @@ use Rattle.pt_model.specs.Searches.{In}
 use Rattle.pt_model.specs.Histories.{History}
 use Rattle.pt_model.specs.declared.start.StartCall.{StartCall}
 use Rattle.pt_model.specs.declared.waiting_call.WaitingCall.{WaitingCall}
-use Rattle.pt_model.specs.WaitingCall.{at_place}
+use Rattle.pt_model.specs.WaitingCall.{call_at_place}
 use Rattle.pt_model.specs.Answers.{open_calls}
-use Rattle.pt_model.specs.Moves.{has_place, moved}
+use Rattle.pt_model.specs.Moves.{has_place, wait_move}
 use Rattle.pt_model.specs.StartRows.{call_at, call_row, move_at}
 use Rattle.pt_model.specs.Seals.{move_sealed}
 use Rattle.pt_model.specs.Steps.{Follows}
-use Rattle.pt_model.proofs.Found.{at_place-in, one_open}
+use Rattle.pt_model.proofs.Found.{call_at_place-in, one_open}
 use Rattle.pt_model.proofs.Lists.{any-in, in-any, false_by}
 use Rattle.pt_records.specs.declared.clients.Caller.{Caller}
 use Rattle.pt_records.specs.declared.clients.Open.{Open}
@@ -59,13 +59,13 @@ no-call (x ∷ opens) j e o i at = go (x.call.place == j) refl e i (no-call open
     go false t e (inr i) ih = ih e o i at
 
 -- the call that is found at a place is one of these, and its place is that one
-at-in : (ws : List WaitingCall) (j : ℕ) (w : WaitingCall) → at_place j ws ≡ Some w
+at-in : (ws : List WaitingCall) (j : ℕ) (w : WaitingCall) → call_at_place j ws ≡ Some w
     → In w ws × (w.place ≡ j)
 at-in [] j w e = absurd cc
 at-in (x ∷ xs) j w e = go (x.place == j) refl e (at-in xs j w)
   where
-    go : (b : Bool) → (x.place == j) ≡ b → cond b (Some x) (at_place j xs) ≡ Some w
-        → (at_place j xs ≡ Some w → In w xs × (w.place ≡ j)) → In w (x ∷ xs) × (w.place ≡ j)
+    go : (b : Bool) → (x.place == j) ≡ b → cond b (Some x) (call_at_place j xs) ≡ Some w
+        → (call_at_place j xs ≡ Some w → In w xs × (w.place ≡ j)) → In w (x ∷ xs) × (w.place ≡ j)
     go true t e ih =
         let same : w ≡ x = cc in
         let at : x.place ≡ j = grind (arith, nat_tests) in
@@ -84,14 +84,14 @@ module _ (h : History) (f : Follows h) (rows : List (ClientRow Caller)) (k : Are
         (ap (λ (y : WaitingCall). y.place) found.1.1 ∙ at)
 
     -- the open calls by their places
-    pub sealed-call : call_at (map call_start (opens_of rows)) j ≡ at_place j (open_calls h)
+    pub sealed-call : call_at (map call_start (opens_of rows)) j ≡ call_at_place j (open_calls h)
     sealed-call = go (call_row (map call_start (opens_of rows)) j) refl
       where
         go : (o : Option StartCall) → call_row (map call_start (opens_of rows)) j ≡ o
-            → option_map (λ r. r.call) o ≡ at_place j (open_calls h)
-        go None e = pick (at_place j (open_calls h)) refl
+            → option_map (λ r. r.call) o ≡ call_at_place j (open_calls h)
+        go None e = pick (call_at_place j (open_calls h)) refl
           where
-            pick : (o : Option WaitingCall) → at_place j (open_calls h) ≡ o → None ≡ o
+            pick : (o : Option WaitingCall) → call_at_place j (open_calls h) ≡ o → None ≡ o
             pick None q = refl
             pick (Some w) q =
                 let at = at-in (open_calls h) j w q in absurd (nowhere e w at.0 at.1)
@@ -100,8 +100,8 @@ module _ (h : History) (f : Follows h) (rows : List (ClientRow Caller)) (k : Are
             let w = found.0.call in
             let is = (open-found h rows k found.0 found.1.0).0 in
             ap (λ (x : StartCall). Some x.call) (sym found.1.1.0)
-            ∙ (sym (at_place-in (open_calls h) w is (λ v i q. one_open h f v w i is q))
-            ∙ ap (λ n. at_place n (open_calls h)) found.1.1.1)
+            ∙ (sym (call_at_place-in (open_calls h) w is (λ v i q. one_open h f v w i is q))
+            ∙ ap (λ n. call_at_place n (open_calls h)) found.1.1.1)
 
     -- their moves
     pub sealed-move : move_at (map call_start (opens_of rows)) j ≡ move_sealed h j
@@ -110,7 +110,7 @@ module _ (h : History) (f : Follows h) (rows : List (ClientRow Caller)) (k : Are
         go : (o : Option StartCall) → call_row (map call_start (opens_of rows)) j ≡ o
             → option_and_then (λ r. r.moved) o ≡ move_sealed h j
         go None e =
-            sym (ap (λ b. cond b (moved h j) None)
+            sym (ap (λ b. cond b (wait_move h j) None)
             (false_by (has_place (open_calls h) j) (λ t.
             let one = any-in (λ w. w.place == j) (open_calls h) t in
             let at : one.0.place ≡ j = same one.0.place one.1.1 in
@@ -125,8 +125,8 @@ module _ (h : History) (f : Follows h) (rows : List (ClientRow Caller)) (k : Are
             let here : (o.call.place == j) ≡ true = at o.call.place found.1.1.1 in
             ap (λ (x : StartCall). x.moved) (sym found.1.1.0)
             ∙ (is.1
-            ∙ (ap (moved h) found.1.1.1
-            ∙ sym (ap (λ b. cond b (moved h j) None)
+            ∙ (ap (wait_move h) found.1.1.1
+            ∙ sym (ap (λ b. cond b (wait_move h j) None)
             (in-any (λ w. w.place == j) (open_calls h) o.call is.0 here))))
           where
             at : (n : ℕ) → n ≡ j → (n == j) ≡ true

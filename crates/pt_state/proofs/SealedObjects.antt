@@ -9,25 +9,25 @@ use Rattle.pt_types.specs.declared.operations.ObjectClass.TheVariants.{Mutex as 
 use Rattle.pt_types.specs.declared.operations.ObjectClass.TheVariants.{Rwlock as RwlockClass}
 use Rattle.pt_types.specs.declared.outcome.Consistency.TheVariants.{Consistent}
 use Rattle.pt_types.specs.declared.views.MutexView.{MutexView}
-use Rattle.pt_types.specs.MutexTable.{is_number}
+use Rattle.pt_types.specs.MutexTable.{is_some_number}
 use Rattle.pt_types.specs.Names.{same_name}
 use Rattle.pt_table.specs.declared.objects.ObjectRow.{ObjectRow}
-use Rattle.pt_table.specs.ObjectRows.{object_at, object_value, object_named}
+use Rattle.pt_table.specs.ObjectRows.{object_at, object_value, row_with_name}
 use Rattle.pt_model.specs.Records.{Object as Named_object}
 use Rattle.pt_model.specs.Searches.{In}
 use Rattle.pt_model.specs.declared.start.StartHolders.{StartHolders}
 use Rattle.pt_model.specs.Histories.{History}
 use Rattle.pt_model.specs.Objects.{kind_of, is_class, object_named as object_named_in}
-use Rattle.pt_model.specs.Mutexes.{count, consistency}
-use Rattle.pt_model.specs.Rwlocks.{writes}
+use Rattle.pt_model.specs.Mutexes.{mutex_count, consistency}
+use Rattle.pt_model.specs.Rwlocks.{is_writer}
 use Rattle.pt_model.specs.StartRows.{object_row, object_called, count_in, consistency_in, writes_in}
 use Rattle.pt_model.specs.Seals.{count_sealed, consistency_sealed, writes_sealed}
 use Rattle.pt_model.specs.Steps.{Follows}
-use Rattle.pt_model.proofs.Holding.{count-held, writes-held}
+use Rattle.pt_model.proofs.Holding.{mutex_count-held, is_writer-held}
 use Rattle.pt_model.proofs.Named.{Named-follows}
 use Rattle.pt_records.specs.declared.objects.Object.{Object}
 use Rattle.pt_records.specs.declared.objects.Object.TheVariants.{Mutex, Rwlock, Cond, Barrier}
-use Rattle.pt_records.specs.Objects.{kind_in_row, Rising, AreObjects}
+use Rattle.pt_records.specs.Objects.{kind_in_row, Rising, AreObjectRows}
 use Rattle.pt_state.specs.Copies.{holders_start, object_start}
 
 module _ {A : Type 0} where
@@ -70,34 +70,34 @@ module _ {A : Type 0} where
   meant row = record { number = row.number; kind = kind_in_row row.value }
 
   called-row : (rows : List (ObjectRow (Object A))) (n : List ℕ)
-      → object_called (map object_start rows) n ≡ option_map meant (object_named rows n)
+      → object_called (map object_start rows) n ≡ option_map meant (row_with_name rows n)
   called-row [] n = refl
   called-row (row ∷ rows) n = go (same_name n row.name) (called-row rows n)
     where
       go : (b : Bool)
-          → object_called (map object_start rows) n ≡ option_map meant (object_named rows n)
+          → object_called (map object_start rows) n ≡ option_map meant (row_with_name rows n)
           → cond b (Some (meant row)) (object_called (map object_start rows) n)
-          ≡ option_map meant (cond b (Some row) (object_named rows n))
+          ≡ option_map meant (cond b (Some row) (row_with_name rows n))
       go true ih = refl
       go false ih = ih
 
   named-in : (rows : List (ObjectRow (Object A))) (n : List ℕ) (row : ObjectRow (Object A))
-      → object_named rows n ≡ Some row → In row rows
+      → row_with_name rows n ≡ Some row → In row rows
   named-in [] n row e = absurd cc
   named-in (x ∷ rows) n row e = go (same_name n x.name) e (named-in rows n row)
     where
-      go : (b : Bool) → cond b (Some x) (object_named rows n) ≡ Some row
-          → (object_named rows n ≡ Some row → In row rows) → In row (x ∷ rows)
+      go : (b : Bool) → cond b (Some x) (row_with_name rows n) ≡ Some row
+          → (row_with_name rows n ≡ Some row → In row rows) → In row (x ∷ rows)
       go true e ih = let same : row ≡ x = cc in inl same
       go false e ih = inr (ih e)
 
   module _ (h : History) (f : Follows h) (rows : List (ObjectRow (Object A)))
-      (k : AreObjects h rows)
+      (k : AreObjectRows h rows)
     where
       -- what a name means
       pub sealed-named : (n : List ℕ)
           → object_called (map object_start rows) n ≡ object_named_in h n
-      sealed-named n = called-row rows n ∙ go (object_named rows n) refl
+      sealed-named n = called-row rows n ∙ go (row_with_name rows n) refl
         where
           found : (row : ObjectRow (Object A)) → In row rows → (o : Option Named_object)
               → object_named_in h n ≡ o → Some row.number ≡ option_map (λ x. x.number) o
@@ -115,7 +115,7 @@ module _ {A : Type 0} where
               ap (λ y. Some (record { number = y; kind = kind_in_row row.value })) number
               ∙ ap (λ y. Some (record { number = x.number; kind = y })) kind
 
-          go : (o : Option (ObjectRow (Object A))) → object_named rows n ≡ o
+          go : (o : Option (ObjectRow (Object A))) → row_with_name rows n ≡ o
               → option_map meant o ≡ object_named_in h n
           go None e = pick (object_named_in h n) refl
             where
@@ -171,17 +171,18 @@ module _ {A : Type 0} where
                 ∙ sym (ap (λ o. cond (is_class o class) it none) (kind_at (Some row) e))
 
         -- the locks of each client on a mutex, dead clients included
-        pub sealed-count : (c : ℕ)
+        pub sealed-mutex_count : (c : ℕ)
             → unwrap_or (option_map (λ r. count_in r.holders c)
             (object_row (map object_start rows) m)) 0 ≡ count_sealed h m c
-        sealed-count c = of-class MutexClass 0 (count h m c) (λ holders. count_in holders c) same
+        sealed-mutex_count c = of-class MutexClass 0 (mutex_count h m c)
+            (λ holders. count_in holders c) same
           where
             same : (x : Object A) → object_value rows m ≡ Some x
                 → count_in (holders_start x) c
-                ≡ cond (is_class (Some (kind_in_row x)) MutexClass) (count h m c) 0
+                ≡ cond (is_class (Some (kind_in_row x)) MutexClass) (mutex_count h m c) 0
             same (Mutex s) e =
-                ap (λ (v : MutexView). cond (is_number v.owner c) v.count 0)
-                (k.look.mutexes m s e).0 ∙ count-held h f m c
+                ap (λ (v : MutexView). cond (is_some_number v.owner c) v.count 0)
+                (k.look.mutexes m s e).0 ∙ mutex_count-held h f m c
             same (Rwlock r) e = refl
             same (Cond q) e = refl
             same (Barrier n) e = refl
@@ -203,17 +204,17 @@ module _ {A : Type 0} where
             same (Barrier n) e = refl
 
         -- whether a client, dead or alive, has the write lock of a lock
-        pub sealed-writes : (c : ℕ)
+        pub sealed-is_writer : (c : ℕ)
             → unwrap_or (option_map (λ o. writes_in o.holders c)
             (object_row (map object_start rows) m)) false ≡ writes_sealed h m c
-        sealed-writes c =
-            of-class RwlockClass false (writes h m c) (λ holders. writes_in holders c) same
+        sealed-is_writer c =
+            of-class RwlockClass false (is_writer h m c) (λ holders. writes_in holders c) same
           where
             same : (x : Object A) → object_value rows m ≡ Some x
                 → writes_in (holders_start x) c
-                ≡ cond (is_class (Some (kind_in_row x)) RwlockClass) (writes h m c) false
+                ≡ cond (is_class (Some (kind_in_row x)) RwlockClass) (is_writer h m c) false
             same (Mutex s) e = refl
             same (Rwlock r) e =
-                ap (λ o. is_number o c) (k.look.rwlocks m r e).writer ∙ writes-held h f m c
+                ap (λ o. is_some_number o c) (k.look.rwlocks m r e).writer ∙ is_writer-held h f m c
             same (Cond q) e = refl
             same (Barrier n) e = refl

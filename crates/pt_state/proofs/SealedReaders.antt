@@ -10,16 +10,16 @@ use Rattle.std.proofs.lemmas.Bool.Decides.{nat_tests}
 use Rattle.pt_types.specs.declared.operations.ObjectClass.TheVariants.{Rwlock as RwlockClass}
 use Rattle.pt_table.specs.declared.objects.ObjectRow.{ObjectRow}
 use Rattle.pt_table.specs.ObjectRows.{object_at, object_value}
-use Rattle.pt_rwlock.specs.RwlockState.{reads_of, row_of}
+use Rattle.pt_rwlock.specs.RwlockState.{reads_of, reads_in_row}
 use Rattle.pt_model.specs.declared.start.StartReader.{StartReader}
 use Rattle.pt_model.specs.Histories.{History}
 use Rattle.pt_model.specs.Objects.{kind_of, is_class}
-use Rattle.pt_model.specs.Rwlocks.{reads}
+use Rattle.pt_model.specs.Rwlocks.{read_count}
 use Rattle.pt_model.specs.StartRows.{reads_in}
 use Rattle.pt_model.specs.Seals.{reads_sealed}
 use Rattle.pt_records.specs.declared.objects.Object.{Object}
 use Rattle.pt_records.specs.declared.objects.Object.TheVariants.{Mutex, Rwlock, Cond, Barrier}
-use Rattle.pt_records.specs.Objects.{kind_in_row, Rising, AreObjects}
+use Rattle.pt_records.specs.Objects.{kind_in_row, Rising, AreObjectRows}
 use Rattle.pt_state.specs.Copies.{readers_at, readers_in, readers_of}
 
 -- rows of another lock are passed over
@@ -91,7 +91,7 @@ module _ {A : Type 0} where
       own (Mutex m) here rest = rest
       own (Rwlock q) here rest =
           of-own o row.number c q.rows (readers_in rows) here
-          ∙ ap (unwrap_or (row_of q c)) rest
+          ∙ ap (unwrap_or (reads_in_row q c)) rest
       own (Cond q) here rest = rest
       own (Barrier k) here rest = rest
 
@@ -110,13 +110,13 @@ module _ {A : Type 0} where
           other row.value apart ∙ ih
 
   -- the read locks of each client, dead clients included
-  pub sealed-reads : (h : History) (rows : List (ObjectRow (Object A))) → AreObjects h rows
+  pub sealed-read_count : (h : History) (rows : List (ObjectRow (Object A))) → AreObjectRows h rows
       → (o c : ℕ) → reads_in (readers_in rows) o c ≡ reads_sealed h o c
-  sealed-reads h rows k o c =
+  sealed-read_count h rows k o c =
       read-rows rows _ o c k.rising ∙ go (object_value rows o) refl
     where
       go : (x : Option (Object A)) → object_value rows o ≡ x → reads_at x c ≡ reads_sealed h o c
-      go None e = sym (ap (λ y. cond (is_class y RwlockClass) (reads h o c) 0) (kind None e))
+      go None e = sym (ap (λ y. cond (is_class y RwlockClass) (read_count h o c) 0) (kind None e))
         where
           kind : (x : Option (Object A)) → object_value rows o ≡ x
               → kind_of h o ≡ option_map kind_in_row x
@@ -129,10 +129,12 @@ module _ {A : Type 0} where
 
           of : (x : Object A) → object_value rows o ≡ Some x
               → reads_at (Some x) c ≡ reads_sealed h o c
-          of (Mutex m) e = sym (ap (λ y. cond (is_class y RwlockClass) (reads h o c) 0) (kind _ e))
+          of (Mutex m) e = sym (ap (λ y. cond (is_class y RwlockClass) (read_count h o c) 0)
+              (kind _ e))
           of (Rwlock r) e =
               (k.look.rwlocks o r e).reads c
-              ∙ sym (ap (λ y. cond (is_class y RwlockClass) (reads h o c) 0) (kind _ e))
-          of (Cond q) e = sym (ap (λ y. cond (is_class y RwlockClass) (reads h o c) 0) (kind _ e))
+              ∙ sym (ap (λ y. cond (is_class y RwlockClass) (read_count h o c) 0) (kind _ e))
+          of (Cond q) e = sym (ap (λ y. cond (is_class y RwlockClass) (read_count h o c) 0)
+              (kind _ e))
           of (Barrier n) e =
-              sym (ap (λ y. cond (is_class y RwlockClass) (reads h o c) 0) (kind _ e))
+              sym (ap (λ y. cond (is_class y RwlockClass) (read_count h o c) 0) (kind _ e))

@@ -7,7 +7,7 @@ use Rattle.pt_types.specs.declared.time.Clock.TheVariants.{Real, Mono}
 use Rattle.pt_table.specs.declared.clients.ClientRow.{ClientRow}
 use Rattle.pt_table.specs.declared.objects.ObjectRow.{ObjectRow}
 use Rattle.pt_model.specs.Starts.{Start}
-use Rattle.pt_model.specs.StartRows.{StartRows, clock_in, reads_of}
+use Rattle.pt_model.specs.StartRows.{StartRows, clock_in, start_of_rows}
 use Rattle.pt_model.specs.Histories.{History, place, outer}
 use Rattle.pt_model.specs.Clients.{clock}
 use Rattle.pt_model.specs.Seals.{seal}
@@ -15,15 +15,15 @@ use Rattle.pt_model.specs.Steps.{Follows}
 use Rattle.pt_records.specs.declared.clients.Caller.{Caller}
 use Rattle.pt_records.specs.declared.objects.Object.{Object}
 use Rattle.pt_records.specs.Callers.{AreCallers, opens_of}
-use Rattle.pt_records.specs.Objects.{AreObjects}
+use Rattle.pt_records.specs.Objects.{AreObjectRows}
 use Rattle.pt_state.specs.declared.clock.Clocks.{Clocks}
 use Rattle.pt_state.specs.Clocks.{AreClocks}
 use Rattle.pt_state.specs.Copies.{call_start, client_start, object_start, readers_in}
-use Rattle.pt_state.proofs.SealedClients.{sealed-client, sealed-latest, sealed-outcome}
+use Rattle.pt_state.proofs.SealedClients.{sealed-client_priority, sealed-latest_call, sealed-outcome}
 use Rattle.pt_state.proofs.SealedCalls.{sealed-call, sealed-move}
-use Rattle.pt_state.proofs.SealedObjects.{sealed-named, sealed-kind, sealed-count}
-use Rattle.pt_state.proofs.SealedObjects.{sealed-consistency, sealed-writes}
-use Rattle.pt_state.proofs.SealedReaders.{sealed-reads}
+use Rattle.pt_state.proofs.SealedObjects.{sealed-named, sealed-kind, sealed-mutex_count}
+use Rattle.pt_state.proofs.SealedObjects.{sealed-consistency, sealed-is_writer}
+use Rattle.pt_state.proofs.SealedReaders.{sealed-read_count}
 
 -- two Starts are the same if everything read off them is the same
 same-start : (a b : Start)
@@ -87,7 +87,7 @@ same-rows a b e0 e1 e2 e3 e4 e5 e6 e7 =
 
 module _ {A : Type 0} (h : History) (f : Follows h) (clients : List (ClientRow Caller))
     (objects : List (ObjectRow (Object A))) (kept : Clocks) (c : AreCallers h clients)
-    (o : AreObjects h objects) (k : AreClocks h kept)
+    (o : AreObjectRows h objects) (k : AreClocks h kept)
   where
     -- the rows that are copied
     abbrev pub copied : StartRows
@@ -107,23 +107,23 @@ module _ {A : Type 0} (h : History) (f : Follows h) (clients : List (ClientRow C
     clocks Real = k Real
     clocks Mono = k Mono
 
-    pub sealed-start : reads_of copied ≡ seal h
+    pub sealed-start : start_of_rows copied ≡ seal h
     sealed-start =
-        same-start (reads_of copied) (seal h) refl refl (fun_ext clocks)
-        (fun_ext (sealed-client h clients c)) (length-map clients client_start ∙ c.many)
-        (fun_ext (sealed-latest h clients c)) (fun_ext (sealed-outcome h clients c f))
+        same-start (start_of_rows copied) (seal h) refl refl (fun_ext clocks)
+        (fun_ext (sealed-client_priority h clients c)) (length-map clients client_start ∙ c.many)
+        (fun_ext (sealed-latest_call h clients c)) (fun_ext (sealed-outcome h clients c f))
         (fun_ext (sealed-named h f objects o)) (fun_ext (sealed-kind h f objects o))
         (length-map objects object_start ∙ o.many)
-        (fun_ext (λ m. fun_ext (sealed-count h f objects o m)))
+        (fun_ext (λ m. fun_ext (sealed-mutex_count h f objects o m)))
         (fun_ext (sealed-consistency h f objects o))
-        (fun_ext (λ r. fun_ext (sealed-writes h f objects o r)))
-        (fun_ext (λ r. fun_ext (sealed-reads h objects o r)))
+        (fun_ext (λ r. fun_ext (sealed-is_writer h f objects o r)))
+        (fun_ext (λ r. fun_ext (sealed-read_count h objects o r)))
         (fun_ext (sealed-call h f clients c)) (fun_ext (sealed-move h f clients c))
 
     -- so is what is read off any rows that are the same
     pub sealed-rows : (rows : StartRows) → rows.at ≡ place h → rows.outer ≡ outer h
         → rows.real ≡ kept.real → rows.mono ≡ kept.mono → rows.clients ≡ map client_start clients
         → rows.objects ≡ map object_start objects → rows.readers ≡ readers_in objects
-        → rows.calls ≡ map call_start (opens_of clients) → reads_of rows ≡ seal h
+        → rows.calls ≡ map call_start (opens_of clients) → start_of_rows rows ≡ seal h
     sealed-rows rows e0 e1 e2 e3 e4 e5 e6 e7 =
-        ap reads_of (same-rows rows copied e0 e1 e2 e3 e4 e5 e6 e7) ∙ sealed-start
+        ap start_of_rows (same-rows rows copied e0 e1 e2 e3 e4 e5 e6 e7) ∙ sealed-start

@@ -7,10 +7,10 @@ use Rattle.pt_model.specs.Clients.{clock}
 use Rattle.pt_state.specs.declared.clock.Clocks.{Clocks}
 
 -- the stored reading of a clock: its greatest moment in nanoseconds, or none before its first
-abbrev pub reading : Clocks → Clock → Option ℕ
-reading kept Real = kept.real
-reading kept Mono = kept.mono
+abbrev pub clock_reading : Clocks → Clock → Option ℕ
+clock_reading clocks Real = clocks.real
+clock_reading clocks Mono = clocks.mono
 
 -- the stored clocks are those of the history
 abbrev pub AreClocks : History → Clocks → Type 0
-AreClocks h kept = (k : Clock) → reading kept k ≡ clock h k
+AreClocks h clocks = (k : Clock) → clock_reading clocks k ≡ clock h k

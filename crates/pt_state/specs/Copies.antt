@@ -39,7 +39,7 @@ readers_of o rows = map (reader_start o) rows
 module _ {A : Type 0} where
   -- the holders of an object, except for the readers of a lock  [XSH 2.9]
   abbrev pub holders_start : Object A → StartHolders
-  holders_start (Mutex m) = holds.Mutex m.seen.consistency m.seen.owner m.seen.count
+  holders_start (Mutex m) = holds.Mutex m.view.consistency m.view.owner m.view.count
   holders_start (Rwlock r) = holds.Rwlock r.writer
   holders_start _ = holds.Others
 

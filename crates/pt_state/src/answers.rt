@@ -3,14 +3,14 @@
 ghost use Rattle.std.specs.Prelude.{◌<◌, ◌≤◌, ◌^◌, ◌≡◌, drop, length, map, option_map, slice_get};
 ghost use Rattle.std.specs.Prelude.{Some, true};
 ghost use Rattle.std.specs.Bool.{OnTrue};
-ghost use Rattle.pt_records.specs.Logs.{logged};
+ghost use Rattle.pt_records.specs.Logs.{log_entry};
 ghost use Rattle.pt_table.specs.ClientRows.{has_client};
-ghost use Rattle.pt_state.specs.Forcing.{Answers, told_to};
-ghost use Rattle.pt_model.specs.Answers.{outcome as said, replies_behind};
-ghost use Rattle.pt_model.specs.StartRows.{reads_of};
+ghost use Rattle.pt_state.specs.Forcing.{ClosesCall, reply_if_closed};
+ghost use Rattle.pt_model.specs.Answers.{outcome as call_outcome, replies_since};
+ghost use Rattle.pt_model.specs.StartRows.{start_of_rows};
 ghost use Rattle.pt_state.specs.Reads.{AreTables};
-ghost use Rattle.pt_model.specs.Queries.{answer_of as answer_in, answers_behind as answers_in};
-ghost use Rattle.pt_state.specs.Adds.{past};
+ghost use Rattle.pt_model.specs.Queries.{answer_of as answer_in, answers_since};
+ghost use Rattle.pt_state.specs.Adds.{history_of};
 
 use crate::state::State;
 use pt_records::answers::{
@@ -35,9 +35,9 @@ impl<A: Allocator + Copy> State<A> {
     // Closes an open call and logs its answer.
     #[inline(always)]
     pub(crate) fn answer(&mut self, found: &Open, outcome: Outcome)
-        requires there { has_client self.old.clients found.now.call.client ≡ true }
+        requires exists { has_client self.old.clients found.now.call.client ≡ true }
         requires spare { length self.old.answers.items < self.old.answers.capacity }
-        ensures { Answers self.old self.new found.now outcome }
+        ensures { ClosesCall self.old self.new found.now outcome }
     {
         let call = found.call;
         let at = self.stored.len();
@@ -58,7 +58,7 @@ impl<A: Allocator + Copy> State<A> {
     /// Returns the answer to the call at a place, if it has one.  [XSH, the call's page]
     pub fn outcome(&self, place: u64) -> Option<Outcome>
         requires { AreTables self.now }
-        ensures { result ≡ said (past self.now) place }
+        ensures { result ≡ call_outcome (history_of self.now) place }
     {
         match outcome_since(&self.answers, place) {
             Some(outcome) => Some(outcome),
@@ -72,7 +72,7 @@ impl<A: Allocator + Copy> State<A> {
     #[inline(never)]
     fn recent_outcome(&self, place: u64) -> Option<Outcome>
         requires { AreTables self.now }
-        ensures { result ≡ said (past self.now) place }
+        ensures { result ≡ call_outcome (history_of self.now) place }
     {
         match recent_outcome(&self.answers, place) {
             Some(outcome) => Some(outcome),
@@ -85,7 +85,7 @@ impl<A: Allocator + Copy> State<A> {
     #[inline(always)]
     pub fn outcome_of(&self, c: ClientId, place: u64) -> Option<Outcome>
         requires { AreTables self.now }
-        ensures { result ≡ said (past self.now) place }
+        ensures { result ≡ call_outcome (history_of self.now) place }
     {
         match self.clients.at(c.0) {
             Some(caller) if is_latest(caller, place) => caller.answer,
@@ -97,7 +97,7 @@ impl<A: Allocator + Copy> State<A> {
     /// one.
     pub fn answer_of(&self, c: ClientId) -> Option<(u64, Outcome)>
         requires { AreTables self.now }
-        ensures { told_to c result ≡ answer_in (past self.now) c }
+        ensures { reply_if_closed c result ≡ answer_in (history_of self.now) c }
     {
         let caller = self.clients.at(c.0)?;
         let place = caller.latest?;
@@ -110,8 +110,8 @@ impl<A: Allocator + Copy> State<A> {
     /// Returns the answers that the entries from a place on gave, in order.
     pub fn answers_since(&self, place: u64) -> LoggedAnswers<'_>
         requires { AreTables self.now }
-        ensures { map (λ a. (logged a).1) result ≡ answers_in
-            (reads_of self.now.stored.start) place self.now.stored.entries }
+        ensures { map (λ a. (log_entry a).1) result ≡ answers_since
+            (start_of_rows self.now.stored.start) place self.now.stored.entries }
     {
         self.answers.from(answered_since(&self.answers, place))
     }
@@ -122,10 +122,10 @@ impl<A: Allocator + Copy> State<A> {
     pub fn answers_before(&self, place: u64) -> usize
         requires { AreTables self.now }
         ensures rest { drop result
-            (replies_behind (reads_of self.now.stored.start) self.now.stored.entries)
-            ≡ answers_in (reads_of self.now.stored.start) place self.now.stored.entries }
+            (replies_since (start_of_rows self.now.stored.start) self.now.stored.entries)
+            ≡ answers_since (start_of_rows self.now.stored.start) place self.now.stored.entries }
         ensures within { result ≤ length
-            (replies_behind (reads_of self.now.stored.start) self.now.stored.entries) }
+            (replies_since (start_of_rows self.now.stored.start) self.now.stored.entries) }
     {
         answered_since(&self.answers, place)
     }
@@ -134,10 +134,10 @@ impl<A: Allocator + Copy> State<A> {
     #[inline(always)]
     pub fn answer_at(&self, index: usize) -> Option<Answered>
         requires { AreTables self.now }
-        ensures value { option_map (λ a. (logged a).1) result ≡ slice_get
-            (replies_behind (reads_of self.now.stored.start) self.now.stored.entries) index }
-        ensures few { length (replies_behind
-            (reads_of self.now.stored.start) self.now.stored.entries) < 2 ^ 64 }
+        ensures value { option_map (λ a. (log_entry a).1) result ≡ slice_get
+            (replies_since (start_of_rows self.now.stored.start) self.now.stored.entries) index }
+        ensures within { length (replies_since
+            (start_of_rows self.now.stored.start) self.now.stored.entries) < 2 ^ 64 }
     {
         if index < self.answers.len() {
             self.answers.from(index).next()
@@ -149,8 +149,8 @@ impl<A: Allocator + Copy> State<A> {
     /// Returns the answer at an index among those that the entries from a place on gave, in order.
     pub fn answer_since(&self, place: u64, index: usize) -> Option<Answered>
         requires { AreTables self.now }
-        ensures { option_map (λ a. (logged a).1) result ≡ slice_get (answers_in
-            (reads_of self.now.stored.start) place self.now.stored.entries) index }
+        ensures { option_map (λ a. (log_entry a).1) result ≡ slice_get (answers_since
+            (start_of_rows self.now.stored.start) place self.now.stored.entries) index }
     {
         let answers = self.answers.from(halved_since(&self.answers, place));
         answers.get(index)

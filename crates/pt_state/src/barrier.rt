@@ -1,12 +1,12 @@
 //! Barriers: arrivals and trips.
 
 ghost use Rattle.pt_types.specs.declared.operations.ObjectClass.TheVariants as class;
-ghost use Rattle.pt_model.specs.Objects.{find};
+ghost use Rattle.pt_model.specs.Objects.{find_object};
 ghost use Rattle.std.specs.Prelude.{None, ◌≡◌};
 ghost use Rattle.pt_model.specs.declared.entry.Entry.TheVariants as entry;
-ghost use Rattle.pt_state.specs.Adds.{Adds, IsReadyFor, past};
+ghost use Rattle.pt_state.specs.Adds.{Adds, HasRoomFor, history_of};
 ghost use Rattle.pt_records.specs.Arrivals.{AreArrivals, Empties};
-ghost use Rattle.pt_types.specs.Operations.{Arrives, clock_of as clock_meant, operation};
+ghost use Rattle.pt_types.specs.Operations.{BarrierWaits, clock_of as clock_meant, operation};
 
 use crate::request::or_zero;
 use crate::state::State;
@@ -33,8 +33,8 @@ impl<A: Allocator + Copy> State<A> {
     /// Pushes the Trip of a full barrier: the calls that wait there are answered, and they leave
     /// its queue.  [XSH pthread_barrier_wait]
     pub fn push_trip<Q: WaitList>(&mut self, b: ObjectId, queues: &mut Q)
-        requires ready { IsReadyFor self.old (entry.Trip b) }
-        requires arrived { AreArrivals (past self.old) b ((Q.seen queues.old).queue b) }
+        requires has_room { HasRoomFor self.old (entry.Trip b) }
+        requires arrived { AreArrivals (history_of self.old) b ((Q.seen queues.old).queue b) }
         ensures adds { Adds self.old (entry.Trip b) self.new }
         ensures emptied { Empties b (Q.seen queues.old) (Q.seen queues.new) }
     {
@@ -49,10 +49,16 @@ impl<A: Allocator + Copy> State<A> {
     }
 
     /// Pushes an arrival at a barrier.  [XSH pthread_barrier_wait]
-    pub fn push_arrival(&mut self, c: ClientId, call: &Call, n: &Name, object: Option<ObjectId>)
-        requires ready { IsReadyFor self.old (entry.Call c call.now None) }
-        requires operation { operation call.now ≡ Arrives n.now }
-        requires found { object ≡ find (past self.old) n.now class.Barrier }
+    pub fn push_waiting_arrival(
+        &mut self,
+        c: ClientId,
+        call: &Call,
+        n: &Name,
+        object: Option<ObjectId>,
+    )
+        requires has_room { HasRoomFor self.old (entry.Call c call.now None) }
+        requires operation { operation call.now ≡ BarrierWaits n.now }
+        requires found { object ≡ find_object (history_of self.old) n.now class.Barrier }
         ensures { Adds self.old (entry.Call c call.now None) self.new }
     {
         // The call is read first, while the compiler still knows which word it is.

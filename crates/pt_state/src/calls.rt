@@ -1,27 +1,28 @@
 //! Calls: those that are answered at once, and those that wait.
 
-ghost use Rattle.pt_model.specs.Objects.{find};
+ghost use Rattle.pt_model.specs.Objects.{find_object};
 ghost use Rattle.pt_types.specs.Operations.{class_needed as class_meant};
 ghost use Rattle.pt_state.specs.Requests.{IsRequest};
 ghost use Rattle.std.specs.Prelude.{IfErr, IsOk, None, OnErr, OnOk, Some, ◌≡◌, ◌<◌, false};
 ghost use Rattle.pt_model.specs.declared.entry.Entry.TheVariants as entry;
-ghost use Rattle.pt_state.specs.Adds.{Adds, IsNearly, IsReadyFor, Stays, past, pushed};
+ghost use Rattle.pt_state.specs.Adds.{Adds, IsNearlyAdded, HasRoomFor, AddsNothing, history_of};
+ghost use Rattle.pt_state.specs.Adds.{store_with_entry};
 ghost use Rattle.pt_state.specs.Calling.{is_done};
-ghost use Rattle.pt_types.specs.declared.outcome.Outcome.TheVariants as told;
+ghost use Rattle.pt_types.specs.declared.outcome.Outcome.TheVariants as outcomes;
 ghost use Rattle.pt_types.specs.Operations.{Acquires, operation};
 ghost use Rattle.pt_model.specs.declared.waiting_call.Role.TheVariants.{ForRead};
 ghost use Rattle.pt_table.specs.ClientRows.{nth_value};
 ghost use Rattle.pt_records.specs.Callers.{open_in};
-ghost use Rattle.pt_model.specs.WaitingCall.{entered as entered_in};
+ghost use Rattle.pt_model.specs.WaitingCall.{new_waiting_call};
 ghost use Rattle.pt_state.specs.Reads.{AreTables};
-ghost use Rattle.pt_state.specs.Left.{IsLeft, IsNearlyLeft};
-ghost use Rattle.pt_state.specs.Outer.{asks_to_read};
+ghost use Rattle.pt_state.specs.NewWaitingCalls.{IsNewWaitingCall, IsNearlyWaiting};
+ghost use Rattle.pt_state.specs.Outer.{is_read_call};
 
 use crate::request::{Request, or_zero};
 use crate::state::State;
 use pt_history::History;
-use pt_model::waiting_call::{Role, WaitingCall, role_needed};
-use pt_records::calls::{open_at, stand};
+use pt_model::waiting_call::{Role, WaitingCall, role_of_lock};
+use pt_records::calls::{open_at, open_waiting_call};
 use pt_records::clients::note_call;
 use pt_records::mutex::release;
 use pt_records::{Answered, Open};
@@ -33,7 +34,7 @@ use std::alloc::Allocator;
 #[inline(always)]
 fn push_entry<A: Allocator + Copy>(stored: &mut History<A>, c: ClientId, call: &Call)
     requires { 0 < stored.old.room }
-    ensures { stored.new ≡ pushed stored.old (entry.Call c call.now None) }
+    ensures { stored.new ≡ store_with_entry stored.old (entry.Call c call.now None) }
 {
     match call {
         Call::Wait(..) => stored.push_wait(c, call, None),
@@ -43,8 +44,8 @@ fn push_entry<A: Allocator + Copy>(stored: &mut History<A>, c: ClientId, call: &
 
 impl<A: Allocator + Copy> State<A> {
     /// Pushes a call that is answered anything but 0. Such a call changes nothing else.  [XSH 2.3]
-    pub fn push_told(&mut self, c: ClientId, call: &Call, outcome: Outcome)
-        requires ready { IsReadyFor self.old (entry.Call c call.now (Some outcome)) }
+    pub fn push_answered_call(&mut self, c: ClientId, call: &Call, outcome: Outcome)
+        requires has_room { HasRoomFor self.old (entry.Call c call.now (Some outcome)) }
         requires other { is_done outcome ≡ false }
         ensures { Adds self.old (entry.Call c call.now (Some outcome)) self.new }
     {
@@ -62,11 +63,11 @@ impl<A: Allocator + Copy> State<A> {
         how: &How,
         object: Option<ObjectId>,
     )
-        requires ready { IsReadyFor self.old (entry.Call c call.now (Some told.Done)) }
+        requires has_room { HasRoomFor self.old (entry.Call c call.now (Some outcomes.Done)) }
         requires operation { operation call.now
             ≡ Acquires n.now lock_kind how.now }
-        requires found { object ≡ find (past self.old) n.now (class_meant lock_kind) }
-        ensures { Adds self.old (entry.Call c call.now (Some told.Done)) self.new }
+        requires found { object ≡ find_object (history_of self.old) n.now (class_meant lock_kind) }
+        ensures { Adds self.old (entry.Call c call.now (Some outcomes.Done)) self.new }
     {
         match lock_kind {
             LockKind::MutexLock => self.push_relock(c, call, n, how, object),
@@ -86,7 +87,7 @@ impl<A: Allocator + Copy> State<A> {
     /// Stores the call and its answer in the client's row, logs the answer, and pushes the call.
     #[inline(always)]
     pub fn finish(&mut self, c: ClientId, call: &Call, outcome: Outcome)
-        requires { IsNearly self.old c call.now (Some outcome) }
+        requires { IsNearlyAdded self.old c call.now (Some outcome) }
         ensures { Adds self.old (entry.Call c call.now (Some outcome)) self.new }
     {
         let place = self.stored.len();
@@ -103,7 +104,7 @@ impl<A: Allocator + Copy> State<A> {
     /// Does what `finish` does, for a call that may have more arguments than a name.
     #[inline(always)]
     pub fn finish_long(&mut self, c: ClientId, call: &Call, outcome: Outcome)
-        requires { IsNearly self.old c call.now (Some outcome) }
+        requires { IsNearlyAdded self.old c call.now (Some outcome) }
         ensures { Adds self.old (entry.Call c call.now (Some outcome)) self.new }
     {
         let place = self.stored.len();
@@ -128,7 +129,7 @@ impl<A: Allocator + Copy> State<A> {
     ) -> Open
         requires { AreTables self.now }
         ensures call { result.call
-            ≡ entered_in (past self.now) c object role clock deadline }
+            ≡ new_waiting_call (history_of self.now) c object role clock deadline }
         ensures unmoved { result.moved ≡ None }
     {
         let call = WaitingCall {
@@ -150,21 +151,21 @@ impl<A: Allocator + Copy> State<A> {
     /// its entry, and reads the call's word for the last time.  [XSH, the call's page]
     #[inline(always)]
     pub fn waiting(&self, c: ClientId, call: &Call, request: &Request) -> Open
-        requires ready { IsReadyFor self.now (entry.Call c call.now None) }
-        requires asks { IsRequest (past self.now) (operation call.now) request.now }
-        ensures { IsLeft (past self.now) c call.now result }
+        requires has_room { HasRoomFor self.now (entry.Call c call.now None) }
+        requires request { IsRequest (history_of self.now) (operation call.now) request.now }
+        ensures { IsNewWaitingCall (history_of self.now) c call.now result }
     {
         let object = or_zero(request.object);
         match &operation_of(call) {
             Operation::Acquires(_, lock_kind, how) => {
-                let role = role_needed(*lock_kind);
+                let role = role_of_lock(*lock_kind);
                 self.entered(c, object, role, clock_of(call), deadline_of(*how))
             }
-            Operation::Awaits(_, _, deadline) => {
+            Operation::CondWaits(_, _, deadline) => {
                 let role = Role::ForCond(or_zero(request.mutex));
                 self.entered(c, object, role, clock_of(call), *deadline)
             }
-            Operation::Arrives(_) => {
+            Operation::BarrierWaits(_) => {
                 self.entered(c, object, Role::ForBarrier, clock_of(call), None)
             }
             // Other calls never wait.
@@ -174,13 +175,13 @@ impl<A: Allocator + Copy> State<A> {
 
     // Stores the call in the client's row as its open call, and pushes it.
     #[inline(always)]
-    fn leave(&mut self, c: ClientId, call: &Call, open: Open)
-        requires { IsNearlyLeft self.old c call.now «open» }
+    fn write_waiting_call(&mut self, c: ClientId, call: &Call, open: Open)
+        requires { IsNearlyWaiting self.old c call.now «open» }
         ensures { Adds self.old (entry.Call c call.now None) self.new }
     {
         let place = self.stored.len();
         push_entry(&mut self.stored, c, call);
-        stand(&mut self.clients, c, open, place);
+        open_waiting_call(&mut self.clients, c, open, place);
     }
 
     // Changes what a call changes when it begins to wait, except its client's row: a reader gets a
@@ -188,16 +189,16 @@ impl<A: Allocator + Copy> State<A> {
     // memory for the row.  [XSH pthread_rwlock_rdlock, pthread_cond_wait]
     #[inline(always)]
     fn begin(&mut self, c: ClientId, call: &Call, open: &Open) -> Result<(), Refusal>
-        requires ready { IsReadyFor self.old (entry.Call c call.now None) }
-        requires left { IsLeft (past self.old) c call.now «open».now }
-        ensures ok { OnOk result (IsNearlyLeft self.new c call.now «open».now) }
-        ensures err { OnErr result (Stays self.old self.new) }
+        requires has_room { HasRoomFor self.old (entry.Call c call.now None) }
+        requires new_waiting { IsNewWaitingCall (history_of self.old) c call.now «open».now }
+        ensures ok { OnOk result (IsNearlyWaiting self.new c call.now «open».now) }
+        ensures unchanged { OnErr result (AddsNothing self.old self.new) }
         ensures rest { self.new ≡ record self.old {
           clients = self.new.clients;
           objects = self.new.objects;
         } }
-        ensures refusal { IfErr result (λ r. r ≡ Refusal.Enomem) }
-        ensures enough { («open».now.call.role ≡ ForRead → ⊥) → IsOk result }
+        ensures err { IfErr result (λ r. r ≡ Refusal.Enomem) }
+        ensures succeeds_if { («open».now.call.role ≡ ForRead → ⊥) → IsOk result }
     {
         match open.call.role {
             Role::ForRead => self.begin_reading(c, call, open),
@@ -215,15 +216,15 @@ impl<A: Allocator + Copy> State<A> {
     /// for its row in a read-write lock.  [XSH, the call's page]
     #[inline(always)]
     pub fn push_waiting(&mut self, c: ClientId, call: &Call, open: Open) -> Result<(), Refusal>
-        requires ready { IsReadyFor self.old (entry.Call c call.now None) }
-        requires left { IsLeft (past self.old) c call.now «open» }
+        requires has_room { HasRoomFor self.old (entry.Call c call.now None) }
+        requires new_waiting { IsNewWaitingCall (history_of self.old) c call.now «open» }
         ensures ok { OnOk result (Adds self.old (entry.Call c call.now None) self.new) }
-        ensures err { OnErr result (Stays self.old self.new) }
-        ensures refusal { IfErr result (λ r. r ≡ Refusal.Enomem) }
-        ensures enough { asks_to_read (operation call.now) ≡ false → IsOk result }
+        ensures unchanged { OnErr result (AddsNothing self.old self.new) }
+        ensures err { IfErr result (λ r. r ≡ Refusal.Enomem) }
+        ensures succeeds_if { is_read_call (operation call.now) ≡ false → IsOk result }
     {
         self.begin(c, call, &open)?;
-        self.leave(c, call, open);
+        self.write_waiting_call(c, call, open);
         Ok(())
     }
 }

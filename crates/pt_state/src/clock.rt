@@ -1,11 +1,11 @@
 //! The two clocks, and the moments that advance them.
 
 ghost use Rattle.std.specs.Prelude.{None, ◌≡◌};
-ghost use Rattle.pt_model.specs.Clients.{clock_by, later as later_of};
-ghost use Rattle.pt_state.specs.Clocks.{reading};
+ghost use Rattle.pt_model.specs.Clients.{clock_by, later_reading};
+ghost use Rattle.pt_state.specs.Clocks.{clock_reading};
 ghost use Rattle.pt_types.specs.declared.time.Clock.{Clock as OneClock};
 ghost use Rattle.pt_model.specs.declared.entry.Entry.TheVariants as entry;
-ghost use Rattle.pt_state.specs.Adds.{Adds, IsReadyFor};
+ghost use Rattle.pt_state.specs.Adds.{Adds, HasRoomFor};
 
 use crate::state::State;
 use pt_model::Entry;
@@ -22,7 +22,7 @@ pub struct Clocks {
 /// Returns the later of a clock's reading and a moment. Returns the moment if the clock has no
 /// reading.
 fn later(clock: Option<Moment>, moment: Moment) -> Moment
-    ensures { result ≡ later_of clock moment }
+    ensures { result ≡ later_reading clock moment }
 {
     match clock {
         Some(now) if moment.nanos() < now.nanos() => now,
@@ -43,7 +43,7 @@ impl Clocks {
 
     /// Returns the reading of a clock, or None before its first moment.
     pub fn reading(&self, clock: Clock) -> Option<Moment>
-        ensures { result ≡ reading self.now clock }
+        ensures { result ≡ clock_reading self.now clock }
     {
         match clock {
             Clock::Real => self.real,
@@ -54,8 +54,8 @@ impl Clocks {
     /// Advances a clock to a moment, unless the clock shows a later one already. The other clock
     /// stays as it is.
     pub fn advance(&mut self, clock: Clock, moment: Moment)
-        ensures { (which : OneClock) → reading self.new which
-            ≡ clock_by (entry.Moment clock moment) (reading self.old which) which }
+        ensures { (which : OneClock) → clock_reading self.new which
+            ≡ clock_by (entry.Moment clock moment) (clock_reading self.old which) which }
     {
         match clock {
             Clock::Real => self.real = Some(later(self.real, moment)),
@@ -67,7 +67,7 @@ impl Clocks {
 impl<A: Allocator + Copy> State<A> {
     /// Pushes a moment, and advances its clock by it.
     pub fn push_moment(&mut self, clock: Clock, moment: Moment)
-        requires { IsReadyFor self.old (entry.Moment clock moment) }
+        requires { HasRoomFor self.old (entry.Moment clock moment) }
         ensures { Adds self.old (entry.Moment clock moment) self.new }
     {
         self.clocks.advance(clock, moment);

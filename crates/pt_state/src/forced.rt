@@ -3,18 +3,18 @@
 ghost use Rattle.std.specs.Prelude.{None, ◌<◌, ◌≡◌, false};
 ghost use Rattle.pt_model.specs.declared.entry.Entry.TheVariants as entry;
 ghost use Rattle.pt_model.specs.Searches.{In};
-ghost use Rattle.pt_state.specs.Adds.{Adds, IsReadyFor, past};
+ghost use Rattle.pt_state.specs.Adds.{Adds, HasRoomFor, history_of};
 ghost use Rattle.pt_records.specs.Callers.{opens_of};
 ghost use Rattle.pt_state.specs.Forcing.{IsGranted};
 ghost use Rattle.pt_model.specs.declared.waiting_call.Role.TheVariants.{ForRead, ForWrite};
 ghost use Rattle.pt_model.specs.Forced.{service};
-ghost use Rattle.pt_model.specs.WaitingCall.{is_arrival, mutex_of};
-ghost use Rattle.pt_state.specs.Serving.{called};
+ghost use Rattle.pt_model.specs.WaitingCall.{is_barrier_wait, final_mutex};
+ghost use Rattle.pt_state.specs.Serving.{call_of_open};
 
 use crate::state::State;
 use pt_history::ForcedEntry;
 use pt_model::Cause;
-use pt_model::waiting_call::{Role, is_wait};
+use pt_model::waiting_call::{Role, is_cond_wait};
 use pt_records::Open;
 use pt_records::cond::wake;
 use pt_types::Outcome;
@@ -24,12 +24,12 @@ impl<A: Allocator + Copy> State<A> {
     /// Pushes the Expire of a call whose deadline has passed. A wait is moved to its mutex; any
     /// other call is answered ETIMEDOUT.  [XSH pthread_cond_timedwait, pthread_mutex_timedlock]
     pub fn push_expire(&mut self, found: &Open)
-        requires ready { IsReadyFor self.old (entry.Expire found.now.call.place) }
-        requires known { In found.now (opens_of self.old.clients) }
+        requires has_room { HasRoomFor self.old (entry.Expire found.now.call.place) }
+        requires is_open { In found.now (opens_of self.old.clients) }
         ensures { Adds self.old (entry.Expire found.now.call.place) self.new }
     {
         let call = found.call;
-        if is_wait(call.role) {
+        if is_cond_wait(call.role) {
             let at = self.stored.len();
             wake(&mut self.clients, call.client, at, Cause::Expired);
             self.stored.push_forced(ForcedEntry::Expire(call.place));
@@ -52,11 +52,12 @@ impl<A: Allocator + Copy> State<A> {
     /// Pushes the Grant of an open call for a read-write lock, and gives the call the lock.
     /// [XSH pthread_rwlock_unlock]
     pub fn push_granted(&mut self, found: &Open)
-        requires ready { IsReadyFor self.old (service (past self.old) (called found.now)) }
-        requires known { In found.now (opens_of self.old.clients) }
-        requires other { is_arrival (called found.now).role ≡ false }
-        requires plain { mutex_of (called found.now).role found.now.call.object ≡ None }
-        ensures { Adds self.old (service (past self.old) (called found.now)) self.new }
+        requires has_room { HasRoomFor self.old (service (history_of self.old)
+            (call_of_open found.now)) }
+        requires is_open { In found.now (opens_of self.old.clients) }
+        requires other { is_barrier_wait (call_of_open found.now).role ≡ false }
+        requires plain { final_mutex (call_of_open found.now).role found.now.call.object ≡ None }
+        ensures { Adds self.old (service (history_of self.old) (call_of_open found.now)) self.new }
     {
         match found.call.role {
             Role::ForRead => self.push_grant_read(found),

@@ -4,23 +4,23 @@ ghost use Rattle.std.specs.Prelude.{IfSome, Some, ◌&&◌, ◌||◌, ◌≡◌,
 ghost use Rattle.std.specs.List.{list_any};
 ghost use Rattle.pt_model.specs.Histories.{place};
 ghost use Rattle.pt_model.specs.Answers.{open_calls};
-ghost use Rattle.pt_model.specs.Verdicts.{is_alive_if as is_alive_if_in, on};
-ghost use Rattle.pt_model.specs.Verdicts.{operation_verdict as said_of};
-ghost use Rattle.pt_model.specs.Verdicts.{will_return as will_return_in};
+ghost use Rattle.pt_model.specs.Verdicts.{is_alive_if as is_alive_if_in, verdict_on};
+ghost use Rattle.pt_model.specs.Verdicts.{operation_verdict as spec_verdict};
+ghost use Rattle.pt_model.specs.Verdicts.{returns_to_mutex};
 ghost use Rattle.pt_state.specs.Reads.{AreTables};
-ghost use Rattle.pt_types.specs.declared.outcome.Outcome.TheVariants as told;
+ghost use Rattle.pt_types.specs.declared.outcome.Outcome.TheVariants as outcomes;
 ghost use Rattle.pt_types.specs.Operations.{Acquires, Restores, Unlocks, class_of, operation};
 ghost use Rattle.pt_types.specs.declared.operations.ObjectClass.TheVariants.{Mutex as MutexClass};
 ghost use Rattle.pt_types.specs.declared.operations.LockKind.TheVariants.{MutexLock};
 ghost use Rattle.pt_model.specs.declared.entry.Entry.TheVariants as entry;
-ghost use Rattle.pt_state.specs.Adds.{Adds, IsReadyFor, past};
+ghost use Rattle.pt_state.specs.Adds.{Adds, HasRoomFor, history_of};
 ghost use Rattle.pt_table.specs.ObjectRows.{object_value};
 ghost use Rattle.pt_model.specs.Searches.{In, first_below};
-ghost use Rattle.pt_model.specs.WaitingCall.{mutex_of};
+ghost use Rattle.pt_model.specs.WaitingCall.{final_mutex};
 ghost use Rattle.pt_model.specs.Grants.{grant_outcome as grant_outcome_in};
 ghost use Rattle.pt_records.specs.Callers.{opens_of};
-ghost use Rattle.pt_state.specs.Serving.{called};
-ghost use Rattle.pt_model.specs.Objects.{find as find_in, is_robust, kind_of};
+ghost use Rattle.pt_state.specs.Serving.{call_of_open};
+ghost use Rattle.pt_model.specs.Objects.{find_object, is_robust, kind_of};
 ghost use Rattle.std.specs.Option.{option_copied};
 ghost use Rattle.pt_records.specs.LocksInRows.{mutex_in};
 ghost use Rattle.pt_model.specs.Mutexes.{mutex_view, owner as owner_in};
@@ -28,7 +28,7 @@ ghost use Rattle.pt_types.specs.MutexTable.{lock_verdict as lock_table};
 ghost use Rattle.pt_types.specs.ObjectTable.{destroy_verdict as destroy_table};
 ghost use Rattle.pt_model.specs.Forced.{is_orphan as is_orphan_in};
 
-use crate::had::Had;
+use crate::acquisition::Acquisition;
 use crate::state::State;
 use pt_history::ForcedEntry;
 use pt_mutex::MutexObj;
@@ -41,11 +41,11 @@ use std::alloc::Allocator;
 impl<A: Allocator + Copy> State<A> {
     /// Returns whether a wait that has not been moved will return to the mutex.
     /// [XSH pthread_mutex_destroy]
-    pub fn will_return(&self, m: ObjectId) -> bool
+    pub fn returns_to_mutex(&self, m: ObjectId) -> bool
         requires { AreTables self.now }
         ensures { result
-            ≡ list_any (will_return_in (past self.now) m)
-            (open_calls (past self.now)) }
+            ≡ list_any (returns_to_mutex (history_of self.now) m)
+            (open_calls (history_of self.now)) }
     {
         any_returns(&self.clients, m)
     }
@@ -59,10 +59,10 @@ impl<A: Allocator + Copy> State<A> {
         how: &How,
         object: Option<ObjectId>,
     )
-        requires ready { IsReadyFor self.old (entry.Call c call.now (Some told.Done)) }
+        requires has_room { HasRoomFor self.old (entry.Call c call.now (Some outcomes.Done)) }
         requires operation { operation call.now ≡ Acquires n.now MutexLock how.now }
-        requires found { object ≡ find_in (past self.old) n.now MutexClass }
-        ensures { Adds self.old (entry.Call c call.now (Some told.Done)) self.new }
+        requires found { object ≡ find_object (history_of self.old) n.now MutexClass }
+        ensures { Adds self.old (entry.Call c call.now (Some outcomes.Done)) self.new }
     {
         let m = object.unwrap();
         acquire(&mut self.clients, &mut self.objects, m, c);
@@ -72,10 +72,10 @@ impl<A: Allocator + Copy> State<A> {
     /// Pushes a call by which the owner of a mutex gives back one lock.  [XSH pthread_mutex_unlock]
     #[inline(always)]
     pub fn push_unlock(&mut self, c: ClientId, call: &Call, n: &Name, object: Option<ObjectId>)
-        requires ready { IsReadyFor self.old (entry.Call c call.now (Some told.Done)) }
+        requires has_room { HasRoomFor self.old (entry.Call c call.now (Some outcomes.Done)) }
         requires operation { operation call.now ≡ Unlocks n.now }
-        requires found { object ≡ find_in (past self.old) n.now MutexClass }
-        ensures { Adds self.old (entry.Call c call.now (Some told.Done)) self.new }
+        requires found { object ≡ find_object (history_of self.old) n.now MutexClass }
+        ensures { Adds self.old (entry.Call c call.now (Some outcomes.Done)) self.new }
     {
         let m = object.unwrap();
         release(&mut self.clients, &mut self.objects, m, c);
@@ -85,10 +85,10 @@ impl<A: Allocator + Copy> State<A> {
     /// Pushes a call by which the owner of a mutex makes it consistent.
     /// [XSH pthread_mutex_consistent]
     pub fn push_restored(&mut self, c: ClientId, call: &Call, n: &Name, object: Option<ObjectId>)
-        requires ready { IsReadyFor self.old (entry.Call c call.now (Some told.Done)) }
+        requires has_room { HasRoomFor self.old (entry.Call c call.now (Some outcomes.Done)) }
         requires operation { operation call.now ≡ Restores n.now }
-        requires found { object ≡ find_in (past self.old) n.now MutexClass }
-        ensures { Adds self.old (entry.Call c call.now (Some told.Done)) self.new }
+        requires found { object ≡ find_object (history_of self.old) n.now MutexClass }
+        ensures { Adds self.old (entry.Call c call.now (Some outcomes.Done)) self.new }
     {
         let m = object.unwrap();
         restore(&mut self.objects, m);
@@ -98,7 +98,7 @@ impl<A: Allocator + Copy> State<A> {
     /// Pushes the Yield of a robust mutex, which is taken from its dead owner.
     /// [XSH pthread_mutex_lock, EOWNERDEAD]
     pub fn push_yield(&mut self, m: ObjectId)
-        requires { IsReadyFor self.old (entry.Yield m) }
+        requires { HasRoomFor self.old (entry.Yield m) }
         ensures { Adds self.old (entry.Yield m) self.new }
     {
         self.orphans = yield_dead(&mut self.objects, m);
@@ -107,21 +107,22 @@ impl<A: Allocator + Copy> State<A> {
 
     /// Pushes the Grant of a call for a mutex: it gets the mutex, or learns that the mutex is not
     /// recoverable. Returns what the call gets.  [XSH pthread_mutex_lock]
-    pub fn push_grant_mutex(&mut self, found: &Open, m: ObjectId) -> Had
-        requires ready { IsReadyFor self.old (entry.Grant found.now.call.place
-            (grant_outcome_in (past self.old) (called found.now))) }
-        requires known { In found.now (opens_of self.old.clients) }
-        requires mutex { mutex_of (called found.now).role found.now.call.object ≡ Some m }
+    pub fn push_grant_mutex(&mut self, found: &Open, m: ObjectId) -> Acquisition
+        requires has_room { HasRoomFor self.old (entry.Grant found.now.call.place
+            (grant_outcome_in (history_of self.old) (call_of_open found.now))) }
+        requires is_open { In found.now (opens_of self.old.clients) }
+        requires mutex { final_mutex (call_of_open found.now).role found.now.call.object ≡ Some m }
         ensures adds { Adds self.old (entry.Grant found.now.call.place
-            (grant_outcome_in (past self.old) (called found.now))) self.new }
-        ensures robust { let h = past self.old in
+            (grant_outcome_in (history_of self.old) (call_of_open found.now))) self.new }
+        ensures robust { let h = history_of self.old in
             result.robust ≡ is_robust (kind_of h m) && is_none (owner_in h m) }
-        ensures outcome { result.outcome ≡ grant_outcome_in (past self.old) (called found.now) }
+        ensures outcome { result.outcome
+            ≡ grant_outcome_in (history_of self.old) (call_of_open found.now) }
     {
-        let had = self.had_at(m, found.moved);
-        self.take(m, found.call.client, had);
-        self.grant(found, had.outcome);
-        had
+        let acquisition = self.acquisition_at(m, found.moved);
+        self.take(m, found.call.client, acquisition);
+        self.grant(found, acquisition.outcome);
+        acquisition
     }
 
     /// Returns the mutex with this number, if the object is a mutex.
@@ -138,12 +139,12 @@ impl<A: Allocator + Copy> State<A> {
     /// Returns the mutex that a name refers to, with its number, if there is one.
     #[inline(always)]
     pub fn mutex_found(&self, n: &Name, object: Option<ObjectId>) -> Option<(ObjectId, &MutexObj)>
-        requires read { AreTables self.now }
-        requires found { object ≡ find_in (past self.now) n.now MutexClass }
+        requires tables { AreTables self.now }
+        requires found { object ≡ find_object (history_of self.now) n.now MutexClass }
         ensures number { option_map (λ found. found.0) result
-            ≡ find_in (past self.now) n.now MutexClass }
-        ensures view { IfSome result (λ found. found.1.now.seen
-            ≡ mutex_view (past self.now) found.0) }
+            ≡ find_object (history_of self.now) n.now MutexClass }
+        ensures view { IfSome result (λ found. found.1.now.view
+            ≡ mutex_view (history_of self.now) found.0) }
     {
         let m = object?;
         match self.mutex_at(m) {
@@ -161,11 +162,11 @@ impl<A: Allocator + Copy> State<A> {
         how: &How,
         object: Option<ObjectId>,
     ) -> Verdict
-        requires read { AreTables self.now }
-        requires found { object ≡ find_in (past self.now) n.now MutexClass }
+        requires tables { AreTables self.now }
+        requires found { object ≡ find_object (history_of self.now) n.now MutexClass }
         ensures { result
-            ≡ on (find_in (past self.now) n.now MutexClass)
-            (λ m. lock_table (mutex_view (past self.now) m) c how.now) }
+            ≡ verdict_on (find_object (history_of self.now) n.now MutexClass)
+            (λ m. lock_table (mutex_view (history_of self.now) m) c how.now) }
     {
         match self.mutex_found(n, object) {
             Some((_, m)) => lock_verdict(m, c, how),
@@ -176,9 +177,10 @@ impl<A: Allocator + Copy> State<A> {
     /// Returns the verdict of a call that destroys a mutex. `awaited` says whether a call waits for
     /// the mutex or will return to it.  [XSH pthread_mutex_destroy]
     pub fn mutex_end_verdict(&self, m: ObjectId, awaited: bool) -> Verdict
-        requires read { AreTables self.now }
-        requires class { option_map class_of (kind_of (past self.now) m) ≡ Some MutexClass }
-        ensures { let owner_lives = is_alive_if_in (past self.now) (owner_in (past self.now) m) in
+        requires tables { AreTables self.now }
+        requires class { option_map class_of (kind_of (history_of self.now) m) ≡ Some MutexClass }
+        ensures { let owner_lives = is_alive_if_in (history_of self.now) (owner_in
+            (history_of self.now) m) in
             result ≡ destroy_table (owner_lives || awaited) }
     {
         let mutex = self.mutex_at(m).unwrap();
@@ -189,9 +191,9 @@ impl<A: Allocator + Copy> State<A> {
     /// Returns the verdict of a client's call to unlock a mutex.  [XSH pthread_mutex_unlock]
     #[inline(always)]
     pub fn unlocks_verdict(&self, c: ClientId, n: &Name, object: Option<ObjectId>) -> Verdict
-        requires read { AreTables self.now }
-        requires found { object ≡ find_in (past self.now) n.now MutexClass }
-        ensures { result ≡ said_of (past self.now) c (Unlocks n.now) }
+        requires tables { AreTables self.now }
+        requires found { object ≡ find_object (history_of self.now) n.now MutexClass }
+        ensures { result ≡ spec_verdict (history_of self.now) c (Unlocks n.now) }
     {
         match self.mutex_found(n, object) {
             Some((_, m)) => m.verdict_unlock(c),
@@ -202,9 +204,9 @@ impl<A: Allocator + Copy> State<A> {
     /// Returns the verdict of a client's call to make a mutex consistent.
     /// [XSH pthread_mutex_consistent]
     pub fn restores_verdict(&self, c: ClientId, n: &Name, object: Option<ObjectId>) -> Verdict
-        requires read { AreTables self.now }
-        requires found { object ≡ find_in (past self.now) n.now MutexClass }
-        ensures { result ≡ said_of (past self.now) c (Restores n.now) }
+        requires tables { AreTables self.now }
+        requires found { object ≡ find_object (history_of self.now) n.now MutexClass }
+        ensures { result ≡ spec_verdict (history_of self.now) c (Restores n.now) }
     {
         match self.mutex_found(n, object) {
             Some((_, m)) => m.verdict_consistent(c),
@@ -217,8 +219,8 @@ impl<A: Allocator + Copy> State<A> {
     pub fn first_orphan(&self) -> Option<ObjectId>
         requires { AreTables self.now }
         ensures { result
-            ≡ first_below (place (past self.now))
-            (is_orphan_in (past self.now)) }
+            ≡ first_below (place (history_of self.now))
+            (is_orphan_in (history_of self.now)) }
     {
         match self.orphans {
             Some(m) => Some(ObjectId(m)),

@@ -1,10 +1,10 @@
 //! What a call asks for: the objects that its names refer to, each looked up once.
 
 ghost use Rattle.std.specs.Prelude.{MatchOption, None, unwrap_or, ◌≡◌};
-ghost use Rattle.pt_types.specs.Shown.{shown_operation};
+ghost use Rattle.pt_types.specs.OperationViews.{operation_view};
 ghost use Rattle.pt_model.specs.Histories.{History};
-ghost use Rattle.pt_model.specs.Objects.{find};
-ghost use Rattle.pt_state.specs.Adds.{past};
+ghost use Rattle.pt_model.specs.Objects.{find_object};
+ghost use Rattle.pt_state.specs.Adds.{history_of};
 ghost use Rattle.pt_state.specs.Requests.{IsRequest, mutex_meant, object_meant};
 ghost use Rattle.pt_state.specs.Reads.{AreTables};
 
@@ -39,21 +39,21 @@ pub(crate) fn or_zero(object: Option<ObjectId>) -> ObjectId
 #[inline(always)]
 fn named_first<'c>(operation: &Operation<'c>) -> Option<(&'c Name, ObjectClass)>
     ensures { (h : History) → MatchOption result
-        (object_meant h (shown_operation operation.now) ≡ None)
-        (λ named. object_meant h (shown_operation operation.now)
-        ≡ find h named.0.now named.1) }
+        (object_meant h (operation_view operation.now) ≡ None)
+        (λ named. object_meant h (operation_view operation.now)
+        ≡ find_object h named.0.now named.1) }
 {
     match operation {
-        Operation::Makes(..) => None,
+        Operation::Inits(..) => None,
         Operation::Ends(n, class) => Some((n, *class)),
         Operation::Acquires(n, lock_kind, _) => Some((n, class_needed(*lock_kind))),
         Operation::Unlocks(n) => Some((n, ObjectClass::Mutex)),
         Operation::Restores(n) => Some((n, ObjectClass::Mutex)),
         Operation::Rwunlocks(n) => Some((n, ObjectClass::Rwlock)),
-        Operation::Awaits(n, _, _) => Some((n, ObjectClass::Cond)),
+        Operation::CondWaits(n, _, _) => Some((n, ObjectClass::Cond)),
         Operation::Signals(n) => Some((n, ObjectClass::Cond)),
         Operation::Broadcasts(n) => Some((n, ObjectClass::Cond)),
-        Operation::Arrives(n) => Some((n, ObjectClass::Barrier)),
+        Operation::BarrierWaits(n) => Some((n, ObjectClass::Barrier)),
     }
 }
 
@@ -63,7 +63,7 @@ impl<A: Allocator + Copy> State<A> {
     #[inline(always)]
     fn object_of(&self, operation: &Operation<'_>) -> Option<ObjectId>
         requires { AreTables self.now }
-        ensures { result ≡ object_meant (past self.now) (shown_operation operation.now) }
+        ensures { result ≡ object_meant (history_of self.now) (operation_view operation.now) }
     {
         match named_first(operation) {
             Some((name, class)) => self.find(name, class),
@@ -76,10 +76,10 @@ impl<A: Allocator + Copy> State<A> {
     #[inline(always)]
     fn mutex_of(&self, operation: &Operation<'_>) -> Option<ObjectId>
         requires { AreTables self.now }
-        ensures { result ≡ mutex_meant (past self.now) (shown_operation operation.now) }
+        ensures { result ≡ mutex_meant (history_of self.now) (operation_view operation.now) }
     {
         match operation {
-            Operation::Awaits(_, m, _) => self.find(m, ObjectClass::Mutex),
+            Operation::CondWaits(_, m, _) => self.find(m, ObjectClass::Mutex),
             _ => None,
         }
     }
@@ -89,7 +89,7 @@ impl<A: Allocator + Copy> State<A> {
     #[inline(always)]
     pub fn request(&self, operation: &Operation<'_>) -> Request
         requires { AreTables self.now }
-        ensures { IsRequest (past self.now) (shown_operation operation.now) result }
+        ensures { IsRequest (history_of self.now) (operation_view operation.now) result }
     {
         Request {
             object: self.object_of(operation),

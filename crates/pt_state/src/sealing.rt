@@ -1,9 +1,9 @@
 //! Seals: a state drops its entries, and its history goes on from a Start.
 
 ghost use Rattle.std.specs.Prelude.{◌≡◌, ◌≤◌, OnErr, OnOk};
-ghost use Rattle.pt_types.specs.Limits.{most_places};
+ghost use Rattle.pt_types.specs.Limits.{max_place};
 ghost use Rattle.pt_model.specs.Histories.{place};
-ghost use Rattle.pt_state.specs.Adds.{past};
+ghost use Rattle.pt_state.specs.Adds.{history_of};
 ghost use Rattle.pt_state.specs.Reads.{AreTables};
 ghost use Rattle.pt_state.specs.Sealed.{Seals};
 
@@ -24,10 +24,10 @@ pub use start::start_of;
 /// next. Clients, objects, clocks and the room stay as they are. Returns an error if a growth is
 /// refused; then nothing changes.
 pub fn seal<A: Allocator + Copy>(state: &mut State<A>) -> Result<(), AllocError>
-    requires read { AreTables state.old }
-    requires places { place (past state.old) ≤ most_places }
+    requires tables { AreTables state.old }
+    requires places { place (history_of state.old) ≤ max_place }
     ensures ok { OnOk result (Seals state.old state.new) }
-    ensures err { OnErr result (state.new ≡ state.old) }
+    ensures unchanged { OnErr result (state.new ≡ state.old) }
 {
     // The rows of the Start are copied from the objects by index, which is fast once they are
     // packed.

@@ -8,13 +8,13 @@ use Rattle.pt_types.specs.declared.operations.ObjectClass.{ObjectClass}
 use Rattle.pt_types.specs.declared.operations.ObjectClass.TheVariants as class
 use Rattle.pt_types.specs.declared.views.MutexView.{MutexView}
 use Rattle.pt_types.specs.declared.views.RwlockView.{RwlockView}
-use Rattle.pt_types.specs.Operations.{Operation, Makes, Ends, Acquires, Unlocks, Restores}
-use Rattle.pt_types.specs.Operations.{Rwunlocks, Awaits, Signals, Broadcasts, Arrives}
+use Rattle.pt_types.specs.Operations.{Operation, Inits, Ends, Acquires, Unlocks, Restores}
+use Rattle.pt_types.specs.Operations.{Rwunlocks, CondWaits, Signals, Broadcasts, BarrierWaits}
 use Rattle.pt_types.specs.Operations.{class_needed}
-use Rattle.pt_types.specs.RwlockTable.{holds}
+use Rattle.pt_types.specs.RwlockTable.{has_lock}
 use Rattle.pt_model.specs.Histories.{History}
 use Rattle.pt_model.specs.Clients.{is_alive}
-use Rattle.pt_model.specs.Objects.{find}
+use Rattle.pt_model.specs.Objects.{find_object}
 use Rattle.pt_readable.specs.Reading.{count_at, mutex_named, rwlock_named}
 use Rattle.pt_states.specs.declared.turns.Turn.{Turn}
 use Rattle.pt_states.specs.Turns.{turns_at}
@@ -71,7 +71,7 @@ holder h row r = row.0 ++ if_many r.reads (codes ")") ++ if_dead h row.1 (dead_w
 abbrev pub holders : History → List ℕ → (lead : List ℕ) → List (List ℕ × ℕ) → List ℕ
 holders h n lead [] = []
 holders h n lead (row ∷ rows) =
-    if holds (lock_seen h n row.1)
+    if has_lock (lock_seen h n row.1)
     then lead ++ holder h row (lock_seen h n row.1) ++ holders h n (codes ", ") rows
     else holders h n lead rows
 
@@ -132,19 +132,19 @@ state_by h clients n class (Some o) =
 
 -- the row of the object of this class that bears the name, if one does  [profile]
 abbrev pub state : History → List (List ℕ × ℕ) → List ℕ → ObjectClass → List ℕ
-state h clients n class = state_by h clients n class (find h n class)
+state h clients n class = state_by h clients n class (find_object h n class)
 
 -- the rows of the objects that a call names, except one that it makes, in the order of its
 -- arguments  [profile]
 abbrev pub states : History → List (List ℕ × ℕ) → Operation → List ℕ
-states h clients (Makes n kind) = []
+states h clients (Inits n kind) = []
 states h clients (Ends n class) = state h clients n class
 states h clients (Acquires n lock_kind how) = state h clients n (class_needed lock_kind)
 states h clients (Unlocks n) = state h clients n class.Mutex
 states h clients (Restores n) = state h clients n class.Mutex
 states h clients (Rwunlocks n) = state h clients n class.Rwlock
-states h clients (Awaits n k deadline) =
+states h clients (CondWaits n k deadline) =
     state h clients n class.Cond ++ state h clients k class.Mutex
 states h clients (Signals n) = state h clients n class.Cond
 states h clients (Broadcasts n) = state h clients n class.Cond
-states h clients (Arrives n) = state h clients n class.Barrier
+states h clients (BarrierWaits n) = state h clients n class.Barrier

@@ -1,8 +1,8 @@
 //! The names of clients, and what is said of dead ones.
 
 ghost use Rattle.std.specs.Prelude.{◌≡◌, ◌++◌, OnOk, IfErr};
-ghost use Rattle.pt_legal.specs.Cores.{past, shown};
-ghost use Rattle.pt_states.specs.States.{if_dead, if_many, name_of as name_meant};
+ghost use Rattle.pt_legal.specs.Cores.{history_of, core_state};
+ghost use Rattle.pt_states.specs.States.{if_dead, if_many, name_of};
 
 use pt_entries::{put, put_number};
 use pt_grammar::ClientName;
@@ -12,7 +12,7 @@ use std::alloc::Allocator;
 
 /// Returns the name under which the client with this number joined.
 pub fn name_of(clients: &[(ClientName, ClientId)], c: ClientId) -> &[u8]
-    ensures { result.now ≡ name_meant clients.now c }
+    ensures { result.now ≡ name_of clients.now c }
 {
     for (name, number) in clients {
         if *number == c {
@@ -30,8 +30,9 @@ pub fn put_if_dead<C: ReadableHistory, A: Allocator + Copy>(
     text: &[u8],
 ) -> Result<(), Refusal>
     ensures ok { OnOk result
-        (out.new.items ≡ out.old.items ++ if_dead (past (shown (C.seen core.now))) c text.now) }
-    ensures why { IfErr result (λ refusal. refusal ≡ Refusal.Enomem) }
+        (out.new.items ≡ out.old.items ++ if_dead (history_of (core_state
+        (C.seen core.now))) c text.now) }
+    ensures err { IfErr result (λ refusal. refusal ≡ Refusal.Enomem) }
 {
     if core.is_alive(c) {
         Ok(())
@@ -47,7 +48,7 @@ pub fn put_if_many<A: Allocator + Copy>(
     end: &[u8],
 ) -> Result<(), Refusal>
     ensures ok { OnOk result (out.new.items ≡ out.old.items ++ if_many n end.now) }
-    ensures why { IfErr result (λ refusal. refusal ≡ Refusal.Enomem) }
+    ensures err { IfErr result (λ refusal. refusal ≡ Refusal.Enomem) }
 {
     if n <= 1 {
         return Ok(());

@@ -1,7 +1,7 @@
 //! Who owns a mutex, and its consistency.
 
 ghost use Rattle.std.specs.Prelude.{◌≡◌, ◌++◌, Some, OnOk, IfErr};
-ghost use Rattle.pt_legal.specs.Cores.{past, shown};
+ghost use Rattle.pt_legal.specs.Cores.{history_of, core_state};
 ghost use Rattle.pt_readable.specs.Reading.{mutex_named};
 ghost use Rattle.pt_states.specs.States.{mutex_words, owner_words};
 
@@ -21,8 +21,9 @@ fn put_owner<C: ReadableHistory, A: Allocator + Copy>(
     m: &MutexView,
 ) -> Result<(), Refusal>
     ensures ok { OnOk result (out.new.items ≡ out.old.items
-        ++ owner_words (past (shown (C.seen core.now))) clients.now m.now.owner m.now.count) }
-    ensures why { IfErr result (λ refusal. refusal ≡ Refusal.Enomem) }
+        ++ owner_words (history_of (core_state
+        (C.seen core.now))) clients.now m.now.owner m.now.count) }
+    ensures err { IfErr result (λ refusal. refusal ≡ Refusal.Enomem) }
 {
     match m.owner {
         Some(c) => {
@@ -43,8 +44,8 @@ fn put_view<C: ReadableHistory, A: Allocator + Copy>(
     m: &MutexView,
 ) -> Result<(), Refusal>
     ensures ok { OnOk result (out.new.items ≡ out.old.items
-        ++ mutex_words (past (shown (C.seen core.now))) clients.now (Some m.now)) }
-    ensures why { IfErr result (λ refusal. refusal ≡ Refusal.Enomem) }
+        ++ mutex_words (history_of (core_state (C.seen core.now))) clients.now (Some m.now)) }
+    ensures err { IfErr result (λ refusal. refusal ≡ Refusal.Enomem) }
 {
     match m.consistency {
         Consistency::Consistent => put_owner(out, core, clients, m),
@@ -64,9 +65,9 @@ pub fn put_mutex<C: ReadableHistory, A: Allocator + Copy>(
     n: &Name,
 ) -> Result<(), Refusal>
     ensures ok { OnOk result (out.new.items ≡ out.old.items
-        ++ mutex_words (past (shown (C.seen core.now))) clients.now
-        (mutex_named (past (shown (C.seen core.now))) n.now)) }
-    ensures why { IfErr result (λ refusal. refusal ≡ Refusal.Enomem) }
+        ++ mutex_words (history_of (core_state (C.seen core.now))) clients.now
+        (mutex_named (history_of (core_state (C.seen core.now))) n.now)) }
+    ensures err { IfErr result (λ refusal. refusal ≡ Refusal.Enomem) }
 {
     match core.mutex(n) {
         Some(m) => put_view(out, core, clients, &m),

@@ -1,10 +1,10 @@
 //! Who holds a read-write lock.
 
 ghost use Rattle.std.specs.Prelude.{◌≡◌, ◌++◌, [], OnOk, IfErr};
-ghost use Rattle.pt_types.specs.RwlockTable.{holds as holds_it};
-ghost use Rattle.pt_legal.specs.Cores.{past, shown};
-ghost use Rattle.pt_states.specs.States.{dead_words as dead_text, hold_words as hold_text};
-ghost use Rattle.pt_states.specs.States.{holder, holders, lock_seen as lock_meant, rwlock_words};
+ghost use Rattle.pt_types.specs.RwlockTable.{has_lock};
+ghost use Rattle.pt_legal.specs.Cores.{history_of, core_state};
+ghost use Rattle.pt_states.specs.States.{dead_words, hold_words};
+ghost use Rattle.pt_states.specs.States.{holder, holders, lock_seen, rwlock_words};
 
 use crate::clients::{put_if_dead, put_if_many};
 use pt_entries::put;
@@ -16,7 +16,7 @@ use std::alloc::Allocator;
 
 // Returns the lock that has the name as a client sees it, or one that nobody holds.  [XSH 2.9]
 fn lock_seen<C: ReadableHistory>(core: &C, n: &Name, c: ClientId) -> RwlockView
-    ensures { result ≡ lock_meant (past (shown (C.seen core.now))) n.now c }
+    ensures { result ≡ lock_seen (history_of (core_state (C.seen core.now))) n.now c }
 {
     core.rwlock(n, c).unwrap_or(RwlockView {
         writes: false,
@@ -28,14 +28,14 @@ fn lock_seen<C: ReadableHistory>(core: &C, n: &Name, c: ClientId) -> RwlockView
 
 // Returns whether the caller holds the lock in either way.  [XSH pthread_rwlock_unlock]
 fn holds(lock: &RwlockView) -> bool
-    ensures { result ≡ holds_it lock.now }
+    ensures { result ≡ has_lock lock.now }
 {
     lock.writes || lock.reads > 0
 }
 
 // Returns what is said of a dead client that holds a lock.
 fn dead_words(writes: bool) -> &'static [u8]
-    ensures { result.now ≡ dead_text writes }
+    ensures { result.now ≡ dead_words writes }
 {
     if writes {
         b", which is dead"
@@ -46,7 +46,7 @@ fn dead_words(writes: bool) -> &'static [u8]
 
 // Returns what is said of a lock before its holders.
 fn hold_words(lock: &RwlockView) -> &'static [u8]
-    ensures { result.now ≡ hold_text lock.now.is_written lock.now.is_read }
+    ensures { result.now ≡ hold_words lock.now.is_written lock.now.is_read }
 {
     match (lock.is_written, lock.is_read) {
         (true, _) => b"written by ",
@@ -64,8 +64,8 @@ fn put_holder<C: ReadableHistory, A: Allocator + Copy>(
     lock: &RwlockView,
 ) -> Result<(), Refusal>
     ensures ok { OnOk result (out.new.items ≡ out.old.items
-        ++ holder (past (shown (C.seen core.now))) client.now lock.now) }
-    ensures why { IfErr result (λ refusal. refusal ≡ Refusal.Enomem) }
+        ++ holder (history_of (core_state (C.seen core.now))) client.now lock.now) }
+    ensures err { IfErr result (λ refusal. refusal ≡ Refusal.Enomem) }
 {
     let (name, c) = client;
     put(out, name.as_bytes())?;
@@ -81,8 +81,8 @@ fn put_holders<C: ReadableHistory, A: Allocator + Copy>(
     n: &Name,
 ) -> Result<(), Refusal>
     ensures ok { OnOk result (out.new.items ≡ out.old.items
-        ++ holders (past (shown (C.seen core.now))) n.now [] clients.now) }
-    ensures why { IfErr result (λ refusal. refusal ≡ Refusal.Enomem) }
+        ++ holders (history_of (core_state (C.seen core.now))) n.now [] clients.now) }
+    ensures err { IfErr result (λ refusal. refusal ≡ Refusal.Enomem) }
 {
     let mut lead: &[u8] = b"";
     for client in clients {
@@ -104,8 +104,8 @@ pub fn put_rwlock<C: ReadableHistory, A: Allocator + Copy>(
     n: &Name,
 ) -> Result<(), Refusal>
     ensures ok { OnOk result (out.new.items ≡ out.old.items
-        ++ rwlock_words (past (shown (C.seen core.now))) clients.now n.now) }
-    ensures why { IfErr result (λ refusal. refusal ≡ Refusal.Enomem) }
+        ++ rwlock_words (history_of (core_state (C.seen core.now))) clients.now n.now) }
+    ensures err { IfErr result (λ refusal. refusal ≡ Refusal.Enomem) }
 {
     put(out, hold_words(&lock_seen(core, n, ClientId(0))))?;
     put_holders(out, core, clients, n)

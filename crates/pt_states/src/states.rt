@@ -2,9 +2,9 @@
 
 ghost use Rattle.std.specs.Prelude.{◌≡◌, ◌++◌, OnOk, IfErr};
 ghost use Rattle.pt_types.specs.Operations.{operation};
-ghost use Rattle.pt_legal.specs.Cores.{past, shown};
-ghost use Rattle.pt_states.specs.States.{object_words, state as state_meant};
-ghost use Rattle.pt_states.specs.States.{states as states_meant};
+ghost use Rattle.pt_legal.specs.Cores.{history_of, core_state};
+ghost use Rattle.pt_states.specs.States.{object_words, state};
+ghost use Rattle.pt_states.specs.States.{states};
 ghost use Rattle.pt_states.specs.Turns.{turns_at as turns_meant};
 
 use crate::mutexes::put_mutex;
@@ -28,9 +28,9 @@ fn put_object<C: ReadableHistory, A: Allocator + Copy>(
     o: ObjectId,
 ) -> Result<(), Refusal>
     ensures ok { OnOk result (out.new.items ≡ out.old.items
-        ++ object_words (past (shown (C.seen core.now))) clients.now n.now class
-        (turns_meant (past (shown (C.seen core.now))) class o clients.now)) }
-    ensures why { IfErr result (λ refusal. refusal ≡ Refusal.Enomem) }
+        ++ object_words (history_of (core_state (C.seen core.now))) clients.now n.now class
+        (turns_meant (history_of (core_state (C.seen core.now))) class o clients.now)) }
+    ensures err { IfErr result (λ refusal. refusal ≡ Refusal.Enomem) }
 {
     let turns = turns_at(*out.allocator(), core, clients, class, o)?;
     match class {
@@ -56,8 +56,8 @@ fn put_state<C: ReadableHistory, A: Allocator + Copy>(
     class: ObjectClass,
 ) -> Result<(), Refusal>
     ensures ok { OnOk result (out.new.items ≡ out.old.items
-        ++ state_meant (past (shown (C.seen core.now))) clients.now n.now class) }
-    ensures why { IfErr result (λ refusal. refusal ≡ Refusal.Enomem) }
+        ++ state (history_of (core_state (C.seen core.now))) clients.now n.now class) }
+    ensures err { IfErr result (λ refusal. refusal ≡ Refusal.Enomem) }
 {
     match core.find(n, class) {
         Some(o) => {
@@ -80,11 +80,12 @@ pub fn put_states<C: ReadableHistory, A: Allocator + Copy>(
     call: &Call,
 ) -> Result<(), Refusal>
     ensures ok { OnOk result (out.new.items ≡ out.old.items
-        ++ states_meant (past (shown (C.seen core.now))) clients.now (operation call.now)) }
-    ensures why { IfErr result (λ refusal. refusal ≡ Refusal.Enomem) }
+        ++ states (history_of (core_state (C.seen core.now))) clients.now
+        (operation call.now)) }
+    ensures err { IfErr result (λ refusal. refusal ≡ Refusal.Enomem) }
 {
     match operation_of(call) {
-        Operation::Makes(_, _) => Ok(()),
+        Operation::Inits(_, _) => Ok(()),
         Operation::Ends(n, class) => put_state(out, core, clients, n, class),
         Operation::Acquires(n, lock_kind, _) => {
             put_state(out, core, clients, n, class_needed(lock_kind))
@@ -92,12 +93,12 @@ pub fn put_states<C: ReadableHistory, A: Allocator + Copy>(
         Operation::Unlocks(n) => put_state(out, core, clients, n, ObjectClass::Mutex),
         Operation::Restores(n) => put_state(out, core, clients, n, ObjectClass::Mutex),
         Operation::Rwunlocks(n) => put_state(out, core, clients, n, ObjectClass::Rwlock),
-        Operation::Awaits(n, m, _) => {
+        Operation::CondWaits(n, m, _) => {
             put_state(out, core, clients, n, ObjectClass::Cond)?;
             put_state(out, core, clients, m, ObjectClass::Mutex)
         }
         Operation::Signals(n) => put_state(out, core, clients, n, ObjectClass::Cond),
         Operation::Broadcasts(n) => put_state(out, core, clients, n, ObjectClass::Cond),
-        Operation::Arrives(n) => put_state(out, core, clients, n, ObjectClass::Barrier),
+        Operation::BarrierWaits(n) => put_state(out, core, clients, n, ObjectClass::Barrier),
     }
 }

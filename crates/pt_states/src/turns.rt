@@ -1,8 +1,8 @@
 //! The calls that wait at an object, in the order of their turns.
 
 ghost use Rattle.std.specs.Prelude.{◌≡◌, OnOk, OnErr, IfOk, IfErr};
-ghost use Rattle.pt_legal.specs.Cores.{past, shown};
-ghost use Rattle.pt_states.specs.Turns.{place_in, turn_key as key_meant, turns_at as turns_meant};
+ghost use Rattle.pt_legal.specs.Cores.{history_of, core_state};
+ghost use Rattle.pt_states.specs.Turns.{place_in, turn_key, turns_at};
 ghost use Rattle.pt_states.specs.Turns.{turns_with, with_turn};
 
 use pt_grammar::ClientName;
@@ -22,7 +22,7 @@ pub struct Turn {
 // Returns the key by which a call has its turn at an object of this class.
 // [XSH 2.8.4, pthread_barrier_wait]
 fn turn_key(class: ObjectClass, key: Key) -> Key
-    ensures { result ≡ key_meant class key }
+    ensures { result ≡ turn_key class key }
 {
     match class {
         ObjectClass::Barrier => Key { priority: 0, ..key },
@@ -46,7 +46,7 @@ fn place_of(turn: &Turn, turns: &[Turn]) -> usize
 // Adds a turn in order.  [XSH 2.8.4]
 fn add<A: Allocator>(turns: &mut Vec<Turn, A>, turn: Turn) -> Result<(), Refusal>
     ensures ok { OnOk result (turns.new.items ≡ with_turn turn turns.old.items) }
-    ensures why { IfErr result (λ refusal. refusal ≡ Refusal.Enomem) }
+    ensures err { IfErr result (λ refusal. refusal ≡ Refusal.Enomem) }
 {
     let place = place_of(&turn, turns.as_slice());
     match turns.insert(place, turn) {
@@ -65,7 +65,7 @@ fn add_client<A: Allocator>(
 ) -> Result<(), Refusal>
     ensures ok { OnOk result
         (turns.new.items ≡ turns_with class o name.now waiting.now turns.old.items) }
-    ensures why { IfErr result (λ refusal. refusal ≡ Refusal.Enomem) }
+    ensures err { IfErr result (λ refusal. refusal ≡ Refusal.Enomem) }
 {
     match waiting {
         Some(waiting) if waiting.object == o => {
@@ -89,8 +89,8 @@ pub fn turns_at<C: ReadableHistory, A: Allocator + Copy>(
     o: ObjectId,
 ) -> Result<Vec<Turn, A>, Refusal>
     ensures ok { IfOk result (λ turns. turns.items
-        ≡ turns_meant (past (shown (C.seen core.now))) class o clients.now) }
-    ensures why { IfErr result (λ refusal. refusal ≡ Refusal.Enomem) }
+        ≡ turns_at (history_of (core_state (C.seen core.now))) class o clients.now) }
+    ensures err { IfErr result (λ refusal. refusal ≡ Refusal.Enomem) }
 {
     let mut turns = Vec::new(alloc);
     for (name, c) in clients {

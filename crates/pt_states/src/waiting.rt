@@ -1,7 +1,7 @@
 //! The calls that wait at an object, as a row has them.
 
 ghost use Rattle.std.specs.Prelude.{◌≡◌, ◌++◌, OnOk, IfErr};
-ghost use Rattle.pt_states.specs.States.{aim_words as aim_text, barrier_words, cond_words};
+ghost use Rattle.pt_states.specs.States.{aim_words, barrier_words, cond_words};
 ghost use Rattle.pt_states.specs.States.{key_words, turn_words};
 
 use crate::turns::Turn;
@@ -13,7 +13,7 @@ use std::alloc::Allocator;
 
 // Returns what a call at a read-write lock waits for.  [XSH pthread_rwlock_wrlock]
 fn aim_words(writes: bool) -> &'static [u8]
-    ensures { result.now ≡ aim_text writes }
+    ensures { result.now ≡ aim_words writes }
 {
     if writes { b" writes" } else { b" reads" }
 }
@@ -26,7 +26,7 @@ fn put_key<A: Allocator + Copy>(
     key: &Key,
 ) -> Result<(), Refusal>
     ensures ok { OnOk result (out.new.items ≡ out.old.items ++ key_words class key.now) }
-    ensures why { IfErr result (λ refusal. refusal ≡ Refusal.Enomem) }
+    ensures err { IfErr result (λ refusal. refusal ≡ Refusal.Enomem) }
 {
     match class {
         ObjectClass::Barrier => Ok(()),
@@ -47,7 +47,7 @@ pub fn put_turns<A: Allocator + Copy>(
 ) -> Result<(), Refusal>
     ensures ok { OnOk result
         (out.new.items ≡ out.old.items ++ turn_words intro.now class turns.now) }
-    ensures why { IfErr result (λ refusal. refusal ≡ Refusal.Enomem) }
+    ensures err { IfErr result (λ refusal. refusal ≡ Refusal.Enomem) }
 {
     let mut lead = intro;
     for turn in turns {
@@ -62,7 +62,7 @@ pub fn put_turns<A: Allocator + Copy>(
 /// Appends the calls that wait at a condition.  [XSH pthread_cond_wait]
 pub fn put_cond<A: Allocator + Copy>(out: &mut Vec<u8, A>, turns: &[Turn]) -> Result<(), Refusal>
     ensures ok { OnOk result (out.new.items ≡ out.old.items ++ cond_words turns.now) }
-    ensures why { IfErr result (λ refusal. refusal ≡ Refusal.Enomem) }
+    ensures err { IfErr result (λ refusal. refusal ≡ Refusal.Enomem) }
 {
     if turns.is_empty() {
         put(out, b"nobody waits")
@@ -79,7 +79,7 @@ pub fn put_barrier<A: Allocator + Copy>(
     turns: &[Turn],
 ) -> Result<(), Refusal>
     ensures ok { OnOk result (out.new.items ≡ out.old.items ++ barrier_words count turns.now) }
-    ensures why { IfErr result (λ refusal. refusal ≡ Refusal.Enomem) }
+    ensures err { IfErr result (λ refusal. refusal ≡ Refusal.Enomem) }
 {
     put_number(out, turns.len() as u64)?;
     put(out, b" of ")?;

@@ -7,7 +7,7 @@ use Rattle.std.specs.Option.{option_map, option_and_then}
 use Rattle.std.specs.Map.{lookup, remove_entry}
 use Rattle.std.proofs.lemmas.Bool.{eq-eqb}
 use Rattle.std.proofs.lemmas.Bool.Decides.{eqb_tells}
-use Rattle.pt_table.specs.Slots.{row_in_slot, number_in, with_number, its_row, rows_listed}
+use Rattle.pt_table.specs.Slots.{row_in_slot, number_in_slot, with_number, its_row, rows_listed}
 use Rattle.pt_table.specs.Slots.{IsNumbered}
 use Rattle.pt_table.specs.Rows.{row_at}
 use Rattle.pt_table.proofs.Lookups.{some_inj, lookup_none-parts, lookup-append_some}
@@ -39,11 +39,11 @@ module _ {R : Type 0} {number : R → ℕ} {slots : List (Option R)} {numbers : 
   longer = left ++ (its, key) ∷ []
 
   -- no row had the number before
-  none : (k : ℕ) → number_in number slots k ≢ Some its
+  none : (k : ℕ) → number_in_slot number slots k ≢ Some its
   none = number_free h its free
 
   -- the number of the new row in its slot
-  own : (n : ℕ) → number_in number new key ≡ Some n → its ≡ n
+  own : (n : ℕ) → number_in_slot number new key ≡ Some n → its ≡ n
   own n e = some_inj (sym (ap (option_map number) here) ∙ e)
 
   -- the entry of another number leads to what it led to before
@@ -54,7 +54,7 @@ module _ {R : Type 0} {number : R → ℕ} {slots : List (Option R)} {numbers : 
       by : Tells e.1 key → its_row number new e.0 e.1 ≡ its_row number slots e.0 e.1
       by (inl s) =
           its-none number new e.0 e.1 (λ there.
-          let same = own e.0 (ap (number_in number new) (sym s.1) ∙ there) in
+          let same = own e.0 (ap (number_in_slot number new) (sym s.1) ∙ there) in
           cc (eq-eqb its e.0 same, apart))
           ∙ sym (ap (option_and_then (with_number number e.0))
           (ap (row_in_slot slots) s.1 ∙ vacant))
@@ -91,13 +91,13 @@ module _ {R : Type 0} {number : R → ℕ} {slots : List (Option R)} {numbers : 
   without : IsNumbered number slots left
   without = IsNumbered-without number slots its none numbers h
 
-  numbered_again : (k n : ℕ) → number_in number new k ≡ Some n
+  numbered_again : (k n : ℕ) → number_in_slot number new k ≡ Some n
       → lookup (nat_eq n) longer ≡ Some k
   numbered_again k n e = by (eqb_tells k key)
     where
       by : Tells k key → lookup (nat_eq n) longer ≡ Some k
       by (inl s) =
-          let same = own n (ap (number_in number new) (sym s.1) ∙ e) in
+          let same = own n (ap (number_in_slot number new) (sym s.1) ∙ e) in
           lookup-append_none (nat_eq n) left its key
           (ap (λ m. lookup (nat_eq m) left) (sym same) ∙ lookup-removed its numbers h.distinct)
           ∙ ap (λ b. cond b (Some key) None) (eq-eqb n its (sym same))

@@ -8,31 +8,32 @@ use Rattle.pt_table.specs.declared.link.Link.{Link}
 use Rattle.pt_table.specs.declared.objects.ObjectRow.{ObjectRow}
 use Rattle.pt_table.specs.ObjectRows.{object_at, object_value, link_of, has_object, with_object}
 use Rattle.pt_table.specs.ObjectRows.{and_object, without_object, out_of_chains}
-use Rattle.pt_table.specs.Linked.{is_linked, next_number, number_before, linked_by, unlinked}
-use Rattle.pt_table.specs.Linked.{but_number, IsChain, IsOneOf, IsRising}
+use Rattle.pt_table.specs.Linked.{is_linked, next_number, number_before, linked_by}
+use Rattle.pt_table.specs.Linked.{rows_without_links}
+use Rattle.pt_table.specs.Linked.{but_number, IsRowChain, IsOneOf, IsRising}
 use Rattle.pt_table.proofs.Members.{rising-but}
-use Rattle.pt_table.proofs.Chained.{same-list, all-linked, Leads-agree}
+use Rattle.pt_table.proofs.Chained.{same-list, all-linked, IsLinkedList-agree}
 
 module _ {T : Type 0} where
   abbrev bare : ObjectRow T → ObjectRow T
   bare row = record row { link = out_of_chains }
 
-  bare-row : (rows : List (ObjectRow T)) (n : ℕ) → object_at (unlinked rows) n
+  bare-row : (rows : List (ObjectRow T)) (n : ℕ) → object_at (rows_without_links rows) n
       ≡ option_map bare (object_at rows n)
   bare-row [] n = refl
   bare-row (r ∷ rows) n = go (bare-row rows n) (nat_eq n r.number)
     where
-      go : object_at (unlinked rows) n
+      go : object_at (rows_without_links rows) n
           ≡ option_map bare (object_at rows n)
           → (b : Bool)
-          → cond b (Some (bare r)) (object_at (unlinked rows) n)
+          → cond b (Some (bare r)) (object_at (rows_without_links rows) n)
           ≡ option_map bare
           (cond b (Some r) (object_at rows n))
       go ih true = refl
       go ih false = ih
 
   bare-value : (rows : List (ObjectRow T)) (n : ℕ)
-      → object_value (unlinked rows) n ≡ object_value rows n
+      → object_value (rows_without_links rows) n ≡ object_value rows n
   bare-value rows n = ap (option_map (λ row. row.value)) (bare-row rows n) ∙ go (object_at rows n)
     where
       go : (o : Option (ObjectRow T)) → option_map (λ row. row.value)
@@ -42,7 +43,7 @@ module _ {T : Type 0} where
       go (Some r) = refl
 
   bare-has : (rows : List (ObjectRow T)) (n : ℕ)
-      → has_object (unlinked rows) n ≡ has_object rows n
+      → has_object (rows_without_links rows) n ≡ has_object rows n
   bare-has rows n = ap is_some (bare-row rows n) ∙ go (object_at rows n)
     where
       go : (o : Option (ObjectRow T))
@@ -51,26 +52,28 @@ module _ {T : Type 0} where
       go (Some r) = refl
 
   -- rows that differ only in their links have the same objects, with the same values
-  pub same-has : (old new : List (ObjectRow T)) → unlinked new ≡ unlinked old → (n : ℕ)
+  pub same-has : (old new : List (ObjectRow T)) → rows_without_links new ≡ rows_without_links old
+      → (n : ℕ)
       → has_object new n ≡ has_object old n
   same-has old new e n =
       sym (bare-has new n) ∙ ap (λ rows. has_object rows n) e ∙ bare-has old n
 
-  pub same-value : (old new : List (ObjectRow T)) → unlinked new ≡ unlinked old → (n : ℕ)
+  pub same-value : (old new : List (ObjectRow T)) → rows_without_links new ≡ rows_without_links old
+      → (n : ℕ)
       → object_value new n ≡ object_value old n
   same-value old new e n =
       sym (bare-value new n) ∙ ap (λ rows. object_value rows n) e ∙ bare-value old n
 
   -- all rows of a chain are linked
   pub chain-linked : (rows : List (ObjectRow T)) (head : Option ℕ) (numbers : List ℕ)
-      → IsChain rows head numbers → (m : ℕ) → IsOneOf numbers m → is_linked rows m ≡ true
+      → IsRowChain rows head numbers → (m : ℕ) → IsOneOf numbers m → is_linked rows m ≡ true
   chain-linked rows head numbers l m i =
       all-linked (next_number rows) (number_before rows) (is_linked rows) None head numbers l m i
 
   -- a head has one chain, so each list of its numbers rises if one does
   pub rising-each : (rows : List (ObjectRow T)) (head : Option ℕ) (ns : List ℕ)
-      → IsChain rows head ns → IsRising ns
-      → (ms : List ℕ) → IsChain rows head ms → IsRising ms
+      → IsRowChain rows head ns → IsRising ns
+      → (ms : List ℕ) → IsRowChain rows head ms → IsRising ms
   rising-each rows head ns is rising ms l =
       subst IsRising
       (same-list (next_number rows) (number_before rows) (is_linked rows) None head ns ms is l)
@@ -78,25 +81,25 @@ module _ {T : Type 0} where
 
   -- a chain that rises still rises if it is unchanged
   pub rising-kept : (old new : List (ObjectRow T)) (head : Option ℕ) (ns : List ℕ)
-      → IsChain old head ns → IsChain new head ns
-      → ((ms : List ℕ) → IsChain old head ms → IsRising ms)
-      → (ms : List ℕ) → IsChain new head ms → IsRising ms
+      → IsRowChain old head ns → IsRowChain new head ns
+      → ((ms : List ℕ) → IsRowChain old head ms → IsRising ms)
+      → (ms : List ℕ) → IsRowChain new head ms → IsRising ms
   rising-kept old new head ns was is rise = rising-each new head ns is (rise ns was)
 
   -- so does a chain from which a number was taken out
   pub rising-left : (old new : List (ObjectRow T)) (head after : Option ℕ) (m : ℕ) (ns : List ℕ)
-      → IsChain old head ns → IsChain new after (but_number ns m)
-      → ((ms : List ℕ) → IsChain old head ms → IsRising ms)
-      → (ms : List ℕ) → IsChain new after ms → IsRising ms
+      → IsRowChain old head ns → IsRowChain new after (but_number ns m)
+      → ((ms : List ℕ) → IsRowChain old head ms → IsRising ms)
+      → (ms : List ℕ) → IsRowChain new after ms → IsRising ms
   rising-left old new head after m ns was is rise =
       rising-each new after (but_number ns m) is (rising-but m ns (rise ns was))
 
   -- a chain is unchanged if the links of its rows are
   pub chain-kept : (old new : List (ObjectRow T)) (h : Option ℕ) (ns : List ℕ)
-      → ((m : ℕ) → IsOneOf ns m → link_of new m ≡ link_of old m) → IsChain old h ns
-      → IsChain new h ns
+      → ((m : ℕ) → IsOneOf ns m → link_of new m ≡ link_of old m) → IsRowChain old h ns
+      → IsRowChain new h ns
   chain-kept old new h ns kept l =
-      Leads-agree (next_number old) (number_before old) (is_linked old) (next_number new)
+      IsLinkedList-agree (next_number old) (number_before old) (is_linked old) (next_number new)
       (number_before new) (is_linked new) None h ns
       (λ m i. (
         ap (option_and_then (λ (link : Link). link.next)) (kept m i),
@@ -180,13 +183,13 @@ module _ {T : Type 0} where
 
   -- so chains are unchanged
   pub chain-valued : (rows : List (ObjectRow T)) (n : ℕ) (value : T) (h : Option ℕ) (ns : List ℕ)
-      → IsChain rows h ns → IsChain (with_object rows n value) h ns
+      → IsRowChain rows h ns → IsRowChain (with_object rows n value) h ns
   chain-valued rows n value h ns =
       chain-kept rows (with_object rows n value) h ns (λ m i. link-valued rows n value m)
 
   -- a number of a chain is linked, so it is not one that has no row or is in no chain
   listed-apart : (rows : List (ObjectRow T)) (n : ℕ) → is_linked rows n ≡ false → (h : Option ℕ)
-      (ns : List ℕ) → IsChain rows h ns → (m : ℕ) → IsOneOf ns m → nat_eq m n ≡ false
+      (ns : List ℕ) → IsRowChain rows h ns → (m : ℕ) → IsOneOf ns m → nat_eq m n ≡ false
   listed-apart rows n free h ns l m i = go (nat_eq m n) refl
     where
       go : (b : Bool) → nat_eq m n ≡ b → b ≡ false
@@ -197,8 +200,8 @@ module _ {T : Type 0} where
           absurd (true≢false (sym linked ∙ ap (is_linked rows) (eqb-true m n e) ∙ free))
 
   pub chain-added : (rows : List (ObjectRow T)) (n : ℕ) (name : List ℕ) (value : T)
-      → object_at rows n ≡ None → (h : Option ℕ) (ns : List ℕ) → IsChain rows h ns
-      → IsChain (and_object rows n name value) h ns
+      → object_at rows n ≡ None → (h : Option ℕ) (ns : List ℕ) → IsRowChain rows h ns
+      → IsRowChain (and_object rows n name value) h ns
   chain-added rows n name value new h ns l =
       chain-kept rows (and_object rows n name value) h ns (λ m i.
       link-added rows n name value new m
@@ -207,7 +210,8 @@ module _ {T : Type 0} where
       h ns l m i)) l
 
   pub chain-removed : (rows : List (ObjectRow T)) (n : ℕ) → is_linked rows n ≡ false
-      → (h : Option ℕ) (ns : List ℕ) → IsChain rows h ns → IsChain (without_object rows n) h ns
+      → (h : Option ℕ) (ns : List ℕ) → IsRowChain rows h ns
+      → IsRowChain (without_object rows n) h ns
   chain-removed rows n free h ns l =
       chain-kept rows (without_object rows n) h ns (λ m i.
       link-removed rows n m (turned m (listed-apart rows n free h ns l m i))) l

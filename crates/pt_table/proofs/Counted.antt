@@ -5,7 +5,8 @@ use Rattle.std.proofs.Common.{inr, arith, true≢false}
 use Rattle.std.proofs.lemmas.Bool.{eqb-true}
 use Rattle.pt_table.specs.declared.objects.ObjectRow.{ObjectRow}
 use Rattle.pt_table.specs.ObjectRows.{object_at, has_object}
-use Rattle.pt_table.specs.Linked.{IsOneOf, but_number, Leads, IsChain, is_linked, next_number}
+use Rattle.pt_table.specs.Linked.{IsOneOf, but_number, IsLinkedList, IsRowChain, is_linked}
+use Rattle.pt_table.specs.Linked.{next_number}
 use Rattle.pt_table.specs.Linked.{number_before}
 use Rattle.pt_table.proofs.Lookups.{turned}
 use Rattle.pt_table.proofs.Links.{linked-there}
@@ -49,7 +50,7 @@ but-apart n (m ∷ ms) k i = go (but-apart n ms k) (nat_eq n m) refl i
     go ih false e (inr j) = ih j
 
 pub once-chain : (nx bf : ℕ → Option ℕ) (lk : ℕ → Bool) (p h : Option ℕ) (ns : List ℕ)
-    → Leads nx bf lk p h ns → Once ns
+    → IsLinkedList nx bf lk p h ns → Once ns
 once-chain nx bf lk p h [] l = tt
 once-chain nx bf lk p h (n ∷ ns) l = (l.3, once-chain nx bf lk (Some n) (nx n) ns l.4)
 
@@ -67,7 +68,7 @@ module _ {T : Type 0} where
 
   -- the length of a chain is at most the number of rows
   pub chain-fits : (rows : List (ObjectRow T)) (head : Option ℕ) (ns : List ℕ)
-      → IsChain rows head ns → length ns ≤ length rows
+      → IsRowChain rows head ns → length ns ≤ length rows
   chain-fits rows head ns l =
       fits rows ns
       (once-chain (next_number rows) (number_before rows) (is_linked rows) None head ns l)

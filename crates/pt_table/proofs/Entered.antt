@@ -1,13 +1,13 @@
 -- A number that is put first in a chain: what leads to what, before and after.
 use Rattle.std.proofs.Common.{◌≡◌, ◌∙◌, ℕ, Bool, true, false, cond, nat_eq, List, ◌∷◌, Option, Some}
 use Rattle.std.proofs.Common.{None, refl, sym, ap, subst}
-use Rattle.pt_table.specs.Linked.{IsOneOf, AreApart, is_number, Leads}
+use Rattle.pt_table.specs.Linked.{IsOneOf, AreDisjoint, is_this_number, IsLinkedList}
 use Rattle.pt_table.proofs.Chained.{differs, same, other, own, head-listed, all-linked, not-listed}
-use Rattle.pt_table.proofs.Chained.{Agrees, Leads-agree, Leads-under}
+use Rattle.pt_table.proofs.Chained.{Agrees, IsLinkedList-agree, IsLinkedList-under}
 
 -- the head of a chain is linked, whichever other row is linked
 pub head-linked : (nx bf : ℕ → Option ℕ) (lk : ℕ → Bool) (number : ℕ) (h : Option ℕ)
-    (ns : List ℕ) → Leads nx bf lk None h ns → (n : ℕ) → h ≡ Some n
+    (ns : List ℕ) → IsLinkedList nx bf lk None h ns → (n : ℕ) → h ≡ Some n
     → cond (nat_eq number n) true (lk n) ≡ true
 head-linked nx bf lk number h ns l n e =
     go (nat_eq number n) (all-linked nx bf lk None h ns l n (head-listed nx bf lk None h ns l n e))
@@ -21,7 +21,7 @@ module _ (nx bf : ℕ → Option ℕ) (lk : ℕ → Bool) (nx' bf' : ℕ → Opt
     (hl : (n : ℕ) → lk' n ≡ cond (nat_eq number n) true (lk n))
     (hn : (n : ℕ) → nx' n ≡ cond (nat_eq number n) h (nx n))
     (hb : (n : ℕ) → bf' n
-    ≡ cond (is_number h n) (Some number) (cond (nat_eq number n) None (bf n))) where
+    ≡ cond (is_this_number h n) (Some number) (cond (nat_eq number n) None (bf n))) where
   linked-still : (n : ℕ) → (number ≡ n → ⊥) → lk' n ≡ lk n
   linked-still n apart = hl n ∙ ap (λ b. cond b true (lk n)) (differs number n apart)
 
@@ -38,8 +38,8 @@ module _ (nx bf : ℕ → Option ℕ) (lk : ℕ → Bool) (nx' bf' : ℕ → Opt
   agrees n apart off = (next-still n apart, before-still n apart off, linked-still n apart)
 
   -- the chain of the head follows the number
-  pub put-first : (ns : List ℕ) → Leads nx bf lk None h ns
-      → Leads nx' bf' lk' None (Some number) (number ∷ ns)
+  pub put-first : (ns : List ℕ) → IsLinkedList nx bf lk None h ns
+      → IsLinkedList nx' bf' lk' None (Some number) (number ∷ ns)
   put-first ns l = (
     refl,
     hl number ∙ ap (λ b. cond b true (lk number)) (same number),
@@ -48,9 +48,9 @@ module _ (nx bf : ℕ → Option ℕ) (lk : ℕ → Bool) (nx' bf' : ℕ → Opt
         (other h number not-head)
         ∙ ap (λ b. cond b None (bf number)) (same number),
     λ i. out number i refl,
-    subst (λ x. Leads nx' bf' lk' (Some number) x ns)
+    subst (λ x. IsLinkedList nx' bf' lk' (Some number) x ns)
         (sym (hn number ∙ ap (λ b. cond b h (nx number)) (same number)))
-        (Leads-under nx bf lk nx' bf' lk' None (Some number) h ns
+        (IsLinkedList-under nx bf lk nx' bf' lk' None (Some number) h ns
         (λ m i off. agrees m (out m i) off)
         (λ m e. (
           next-still m (out m (head-listed nx bf lk None h ns l m e)),
@@ -66,9 +66,9 @@ module _ (nx bf : ℕ → Option ℕ) (lk : ℕ → Bool) (nx' bf' : ℕ → Opt
       not-head e = out number (head-listed nx bf lk None h ns l number e) refl
 
   -- a chain that has no number in common with that one is unchanged
-  pub keeps-first : (ns : List ℕ) → Leads nx bf lk None h ns → (o : Option ℕ) (os : List ℕ)
-      → Leads nx bf lk None o os → AreApart ns os → Leads nx' bf' lk' None o os
+  pub keeps-first : (ns : List ℕ) → IsLinkedList nx bf lk None h ns → (o : Option ℕ) (os : List ℕ)
+      → IsLinkedList nx bf lk None o os → AreDisjoint ns os → IsLinkedList nx' bf' lk' None o os
   keeps-first ns l o os m apart =
-      Leads-agree nx bf lk nx' bf' lk' None o os
+      IsLinkedList-agree nx bf lk nx' bf' lk' None o os
       (λ k i. agrees k (not-listed nx bf lk number free None o os m k i)
       (λ e. apart k (head-listed nx bf lk None h ns l k e) i)) m

@@ -5,7 +5,7 @@ use Rattle.std.proofs.Math.ListN.{set}
 use Rattle.std.proofs.Math.Seq.{take-suc-set}
 use Rattle.std.proofs.lemmas.List.{append-nil, append_assoc, length-append}
 use Rattle.pt_table.specs.declared.objects.ObjectRow.{ObjectRow}
-use Rattle.pt_table.specs.Linked.{is_linked, next_number, number_before, IsChain, Leads}
+use Rattle.pt_table.specs.Linked.{is_linked, next_number, number_before, IsRowChain, IsLinkedList}
 use Rattle.pt_table.proofs.Lookups.{some_inj, none_some}
 
 -- one more number is written
@@ -19,11 +19,11 @@ module _ {T : Type 0} (rows : List (ObjectRow T)) (head : Option ℕ) where
   -- these numbers of a head's chain were read, and the rest of it begins here
   pub record IsGathered (rest : Option ℕ) (done : List ℕ) : Type 0 where
     pub left : List ℕ
-    pub whole : IsChain rows head (done ++ left)
+    pub whole : IsRowChain rows head (done ++ left)
     pub from : Option ℕ
-    pub leads : Leads (next_number rows) (number_before rows) (is_linked rows) from rest left
+    pub leads : IsLinkedList (next_number rows) (number_before rows) (is_linked rows) from rest left
 
-  pub gathers-none : (ns : List ℕ) → IsChain rows head ns → (done : List ℕ) → done ≡ []
+  pub gathers-none : (ns : List ℕ) → IsRowChain rows head ns → (done : List ℕ) → done ≡ []
       → IsGathered head done
   gathers-none ns l done e =
       subst (λ d. IsGathered head d) (sym e)
@@ -31,13 +31,13 @@ module _ {T : Type 0} (rows : List (ObjectRow T)) (head : Option ℕ) where
 
   module _ (rest : Option ℕ) (done : List ℕ) (d : IsGathered rest done) where
     -- as long as a number is left, there is room for it
-    pub has-room : (most : ℕ) → ((ns : List ℕ) → IsChain rows head ns → length ns ≤ most)
+    pub has-room : (most : ℕ) → ((ns : List ℕ) → IsRowChain rows head ns → length ns ≤ most)
         → (first : ℕ) → rest ≡ Some first → length done < most
     has-room most within first e =
         go d.left d.leads (within (done ++ d.left) d.whole) (length-append done d.left)
       where
         go : (left : List ℕ)
-            → Leads (next_number rows) (number_before rows) (is_linked rows) d.from rest left
+            → IsLinkedList (next_number rows) (number_before rows) (is_linked rows) d.from rest left
             → length (done ++ left) ≤ most → length (done ++ left) ≡ length done + length left
             → length done < most
         go [] l fits sum = absurd (none_some (sym l ∙ e))
@@ -48,25 +48,25 @@ module _ {T : Type 0} (rows : List (ObjectRow T)) (head : Option ℕ) where
         → IsGathered (next_number rows first) (done ++ first ∷ [])
     gathers-more first e = go d.left d.whole d.leads
       where
-        go : (left : List ℕ) → IsChain rows head (done ++ left)
-            → Leads (next_number rows) (number_before rows) (is_linked rows) d.from rest left
+        go : (left : List ℕ) → IsRowChain rows head (done ++ left)
+            → IsLinkedList (next_number rows) (number_before rows) (is_linked rows) d.from rest left
             → IsGathered (next_number rows first) (done ++ first ∷ [])
         go [] w l = absurd (none_some (sym l ∙ e))
         go (n ∷ tail) w l =
             let same : n ≡ first = some_inj (sym l.0 ∙ e) in
             subst (λ m. IsGathered (next_number rows m) (done ++ m ∷ [])) same (record {
               left = tail;
-              whole = subst (IsChain rows head) (sym (append_assoc done (n ∷ []) tail)) w;
+              whole = subst (IsRowChain rows head) (sym (append_assoc done (n ∷ []) tail)) w;
               from = Some n;
               leads = l.4;
             })
 
     -- all are read
-    pub gathers-all : rest ≡ None → IsChain rows head done
+    pub gathers-all : rest ≡ None → IsRowChain rows head done
     gathers-all e = go d.left d.whole d.leads
       where
-        go : (left : List ℕ) → IsChain rows head (done ++ left)
-            → Leads (next_number rows) (number_before rows) (is_linked rows) d.from rest left
-            → IsChain rows head done
-        go [] w l = subst (IsChain rows head) (append-nil done) w
+        go : (left : List ℕ) → IsRowChain rows head (done ++ left)
+            → IsLinkedList (next_number rows) (number_before rows) (is_linked rows) d.from rest left
+            → IsRowChain rows head done
+        go [] w l = subst (IsRowChain rows head) (append-nil done) w
         go (n ∷ tail) w l = absurd (none_some (sym e ∙ l.0))

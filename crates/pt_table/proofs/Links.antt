@@ -7,7 +7,8 @@ use Rattle.std.proofs.lemmas.Bool.Decides.{nat_tests}
 use Rattle.pt_table.specs.declared.link.Link.{Link}
 use Rattle.pt_table.specs.declared.objects.ObjectRow.{ObjectRow}
 use Rattle.pt_table.specs.ObjectRows.{object_at, link_of, has_object, with_link, out_of_chains}
-use Rattle.pt_table.specs.Linked.{is_linked, next_number, number_before, linked_by, unlinked}
+use Rattle.pt_table.specs.Linked.{is_linked, next_number, number_before, linked_by}
+use Rattle.pt_table.specs.Linked.{rows_without_links}
 
 module _ {T : Type 0} where
   -- the row that is found has the number
@@ -110,12 +111,12 @@ module _ {T : Type 0} where
       go false = refl
 
   -- and the rows are unchanged, except for links
-  pub unlinked-written : (rows : List (ObjectRow T)) (n : ℕ) (link : Link)
-      → unlinked (with_link rows n link) ≡ unlinked rows
-  unlinked-written [] n link = refl
-  unlinked-written (r ∷ rows) n link =
-      ap (λ x. x ∷ unlinked (with_link rows n link)) (go (nat_eq n r.number))
-      ∙ ap (λ xs. record r { link = out_of_chains } ∷ xs) (unlinked-written rows n link)
+  pub rows_without_links-written : (rows : List (ObjectRow T)) (n : ℕ) (link : Link)
+      → rows_without_links (with_link rows n link) ≡ rows_without_links rows
+  rows_without_links-written [] n link = refl
+  rows_without_links-written (r ∷ rows) n link =
+      ap (λ x. x ∷ rows_without_links (with_link rows n link)) (go (nat_eq n r.number))
+      ∙ ap (λ xs. record r { link = out_of_chains } ∷ xs) (rows_without_links-written rows n link)
     where
       go : (b : Bool) → record (cond b (record r { link = link }) r) { link = out_of_chains }
           ≡ record r { link = out_of_chains }
@@ -158,8 +159,8 @@ module _ {T : Type 0} where
     pub linked-once : (k : ℕ) → is_linked one k ≡ cond (nat_eq n k) link.linked (is_linked rows k)
     linked-once k = ap (λ rs. is_linked rs k) to_one ∙ linked-written rows n link has k
 
-    pub unlinked-once : unlinked one ≡ unlinked rows
-    unlinked-once = ap unlinked to_one ∙ unlinked-written rows n link
+    pub rows_without_links-once : rows_without_links one ≡ rows_without_links rows
+    rows_without_links-once = ap rows_without_links to_one ∙ rows_without_links-written rows n link
 
 -- writing at a number what was there changes nothing
 pub written-same : {X : Type 0} (f : ℕ → X) (n : ℕ) (x : X) → x ≡ f n → (k : ℕ)

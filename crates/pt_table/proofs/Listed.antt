@@ -8,7 +8,7 @@ use Rattle.std.specs.Map.{lookup}
 use Rattle.std.proofs.lemmas.Bool.{eq-eqb}
 use Rattle.std.proofs.lemmas.Bool.Decides.{eqb_tells}
 use Rattle.pt_table.specs.Rows.{row_at}
-use Rattle.pt_table.specs.Slots.{row_in_slot, number_in, with_number, its_row}
+use Rattle.pt_table.specs.Slots.{row_in_slot, number_in_slot, with_number, its_row}
 use Rattle.pt_table.specs.Slots.{rows_listed, Distinct, IsNumbered}
 use Rattle.pt_table.proofs.Lookups.{some_inj, none_some}
 
@@ -51,7 +51,8 @@ module _ {R : Type 0} (number : R → ℕ) where
         ap (option_and_then (with_number number n)) here
         ∙ ap (λ b. cond b (Some row) None) (eq-eqb n (number row) (sym own))
 
-    pub its-none : (n s : ℕ) → number_in number slots s ≢ Some n → its_row number slots n s ≡ None
+    pub its-none : (n s : ℕ) → number_in_slot number slots s ≢ Some n → its_row number slots n s
+        ≡ None
     its-none n s not = by (row_in_slot slots s) refl
       where
         by : (o : Option R) → row_in_slot slots s ≡ o
@@ -148,7 +149,7 @@ module _ {R : Type 0} {number : R → ℕ} {slots : List (Option R)} {numbers : 
 
   -- no slot has a number that has no row
   pub number_free : (n : ℕ) → row_at number rows n ≡ None → (slot : ℕ)
-      → number_in number slots slot ≢ Some n
+      → number_in_slot number slots slot ≢ Some n
   number_free n free slot e = by (row_in_slot slots slot) refl e
     where
       by : (o : Option R) → row_in_slot slots slot ≡ o → option_map number o ≡ Some n → ⊥
@@ -157,8 +158,8 @@ module _ {R : Type 0} {number : R → ℕ} {slots : List (Option R)} {numbers : 
           none_some (sym free ∙ row_there n slot row is (some_inj e))
 
   -- two slots with rows of one number are the same
-  pub same_slot : (n slot other : ℕ) → number_in number slots slot ≡ Some n
-      → number_in number slots other ≡ Some n → slot ≡ other
+  pub same_slot : (n slot other : ℕ) → number_in_slot number slots slot ≡ Some n
+      → number_in_slot number slots other ≡ Some n → slot ≡ other
   same_slot n slot other e f = some_inj (sym (h.numbered slot n e) ∙ h.numbered other n f)
 
   -- a slot that has the row of a number

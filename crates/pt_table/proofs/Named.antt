@@ -10,7 +10,7 @@ use Rattle.std.proofs.lemmas.Bool.Decides.{eqb_tells}
 use Rattle.std.proofs.lemmas.Slice.Eq.{bytes_eq-Decides}
 use Rattle.pt_types.specs.Names.{same_name}
 use Rattle.pt_table.specs.declared.objects.ObjectRow.{ObjectRow}
-use Rattle.pt_table.specs.ObjectRows.{object_at, object_named, has_object, is_taken}
+use Rattle.pt_table.specs.ObjectRows.{object_at, row_with_name, has_object, is_in_use}
 use Rattle.pt_table.specs.Slots.{row_in_slot, its_row, rows_listed, IsNumbered, IsTaken}
 use Rattle.pt_table.specs.NameSlots.{name_in, IsNamed, IsSet}
 use Rattle.pt_table.proofs.Lookups.{some_inj, none_some, none_of}
@@ -59,14 +59,14 @@ module _ {T : Type 0} (slots : List (Option (ObjectRow T))) (t : List ℕ) where
   name_found : (es : List (ℕ × ℕ)) (s n : ℕ) (row : ObjectRow T)
       → its_row num slots n s ≡ Some row → row.name ≡ t
       → ((k : ℕ) → name_in slots k ≡ Some t → k ≡ s) → lookup (nat_eq n) es ≡ Some s
-      → object_named (listed es) t ≡ Some row
+      → row_with_name (listed es) t ≡ Some row
   name_found [] s n row is name only at = cc
   name_found (e ∷ es) s n row is name only at =
       by (λ later. name_found es s n row is name only later) (its_row num slots e.0 e.1) refl
       (eqb_tells n e.0) at
     where
       rest : Option (ObjectRow T)
-      rest = object_named (listed es) t
+      rest = row_with_name (listed es) t
 
       same_row : n ≡ e.0 → e.1 ≡ s → its_row num slots e.0 e.1 ≡ Some row
       same_row own slot =
@@ -79,7 +79,7 @@ module _ {T : Type 0} (slots : List (Option (ObjectRow T))) (t : List ℕ) where
       by : (lookup (nat_eq n) es ≡ Some s → rest ≡ Some row) → (o : Option (ObjectRow T))
           → its_row num slots e.0 e.1 ≡ o → Tells n e.0
           → cond (nat_eq n e.0) (Some e.1) (lookup (nat_eq n) es) ≡ Some s
-          → object_named (cons_option o (listed es)) t ≡ Some row
+          → row_with_name (cons_option o (listed es)) t ≡ Some row
       by ih None here (inl q) at =
           absurd (none_some (sym here ∙ same_row q.1 (slot_is q.0 at)))
       by ih None here (inr a) at =
@@ -101,17 +101,17 @@ module _ {T : Type 0} (slots : List (Option (ObjectRow T))) (t : List ℕ) where
               ih (sym (ap (λ b. cond b (Some e.1) (lookup (nat_eq n) es)) a.0) ∙ at)
 
   name_missing : (es : List (ℕ × ℕ)) → ((k : ℕ) → name_in slots k ≢ Some t)
-      → object_named (listed es) t ≡ None
+      → row_with_name (listed es) t ≡ None
   name_missing [] none = refl
   name_missing (e ∷ es) none = by (name_missing es none) (its_row num slots e.0 e.1) refl
     where
-      by : object_named (listed es) t ≡ None → (o : Option (ObjectRow T))
-          → its_row num slots e.0 e.1 ≡ o → object_named (cons_option o (listed es)) t ≡ None
+      by : row_with_name (listed es) t ≡ None → (o : Option (ObjectRow T))
+          → its_row num slots e.0 e.1 ≡ o → row_with_name (cons_option o (listed es)) t ≡ None
       by ih None here = ih
       by ih (Some first) here = go (same_name t first.name) refl
         where
           go : (b : Bool) → same_name t first.name ≡ b
-              → cond b (Some first) (object_named (listed es) t) ≡ None
+              → cond b (Some first) (row_with_name (listed es) t) ≡ None
           go true same = absurd (none e.1 (named_in e first here same))
           go false other = ih
 
@@ -128,7 +128,7 @@ module _ {T : Type 0} {slots : List (Option (ObjectRow T))} {numbers : List (ℕ
 
   -- the row with a name is the one that the table has for it
   pub row_found : (t : List ℕ) (row : ObjectRow T) (s : ℕ) → row_in_slot slots s ≡ Some row
-      → row.name ≡ t → Some row ≡ object_named rows t
+      → row.name ≡ t → Some row ≡ row_with_name rows t
   row_found t row s here name =
       let at = h.numbered s row.number (ap (option_map (λ r. r.number)) here) in
       let mine : name_in slots s ≡ Some t = ap (option_map (λ r. r.name)) here ∙ ap Some name in
@@ -136,16 +136,16 @@ module _ {T : Type 0} {slots : List (Option (ObjectRow T))} {numbers : List (ℕ
       some_inj (sym (k.filed j t there) ∙ k.filed s t mine) in
       let its = its-there num slots row.number s row here refl in
       sym (name_found slots t numbers s row.number row its name only at)
-      ∙ ap (λ rs. object_named rs t) view
+      ∙ ap (λ rs. row_with_name rs t) view
 
   -- if no slot has the name, the table has no row with it
   pub row_missing : (t : List ℕ) → ((s : ℕ) → name_in slots s ≢ Some t)
-      → None ≡ object_named rows t
+      → None ≡ row_with_name rows t
   row_missing t none =
-      sym (name_missing slots t numbers none) ∙ ap (λ rs. object_named rs t) view
+      sym (name_missing slots t numbers none) ∙ ap (λ rs. row_with_name rs t) view
 
   -- a name that no row has is in no slot
-  pub name_free : (t : List ℕ) → object_named rows t ≡ None → (s : ℕ) → name_in slots s ≢ Some t
+  pub name_free : (t : List ℕ) → row_with_name rows t ≡ None → (s : ℕ) → name_in slots s ≢ Some t
   name_free t free s there =
       let r = row_of_name (row_in_slot slots s) t there in
       none_some (sym free ∙ sym (row_found t r.0 s r.1 r.2))
@@ -249,7 +249,7 @@ pub named_added : {T : Type 0} {slots : List (Option (ObjectRow T))} {numbers : 
     → (row : ObjectRow T) (key : ℕ) → row_in_slot new key ≡ Some row
     → ((s : ℕ) → s ≢ key → row_in_slot new s ≡ row_in_slot roomy s)
     → IsSet roomy_names row.name (Some key) names'
-    → object_named rows row.name ≡ None → IsNamed new names'
+    → row_with_name rows row.name ≡ None → IsNamed new names'
 named_added h k rows view roomy roomy_names same same_names new names' row key here others now
     free =
     let as_named : IsNamed roomy roomy_names = rw (same, same_names) k in
@@ -259,11 +259,11 @@ named_added h k rows view roomy roomy_names same same_names new names' row key h
 
 -- a number and a name that are not taken have no row
 pub number_free : {T : Type 0} (rows : List (ObjectRow T)) (n : ℕ) (t : List ℕ)
-    → is_taken rows n t ≡ false → object_at rows n ≡ None
+    → is_in_use rows n t ≡ false → object_at rows n ≡ None
 number_free rows n t e =
-    none_of (object_at rows n) (or_left (has_object rows n) (is_some (object_named rows t)) e)
+    none_of (object_at rows n) (or_left (has_object rows n) (is_some (row_with_name rows t)) e)
 
 pub unnamed : {T : Type 0} (rows : List (ObjectRow T)) (n : ℕ) (t : List ℕ)
-    → is_taken rows n t ≡ false → object_named rows t ≡ None
+    → is_in_use rows n t ≡ false → row_with_name rows t ≡ None
 unnamed rows n t e =
-    none_of (object_named rows t) (or_right (has_object rows n) (is_some (object_named rows t)) e)
+    none_of (row_with_name rows t) (or_right (has_object rows n) (is_some (row_with_name rows t)) e)

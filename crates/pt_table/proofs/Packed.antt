@@ -7,7 +7,7 @@ use Rattle.std.specs.List.{cons_option}
 use Rattle.std.specs.Option.{option_map, option_and_then}
 use Rattle.std.specs.Map.{lookup, remove_entry}
 use Rattle.std.proofs.lemmas.Bool.Decides.{eqb_tells}
-use Rattle.pt_table.specs.Slots.{row_in_slot, number_in, its_row, rows_listed, Distinct}
+use Rattle.pt_table.specs.Slots.{row_in_slot, number_in_slot, its_row, rows_listed, Distinct}
 use Rattle.pt_table.specs.Slots.{IsNumbered}
 use Rattle.pt_table.proofs.Lookups.{some_inj, lookup_none-parts, none_of, lookup-remove_other}
 use Rattle.pt_table.proofs.Lookups.{Distinct-remove}
@@ -104,7 +104,8 @@ module _ {R : Type 0} (number : R → ℕ) (slots : List (Option R)) where
   }
 
   -- a number that no row has is dropped
-  pub rows_without : (n : ℕ) → ((k : ℕ) → number_in number slots k ≢ Some n) → (es : List (ℕ × ℕ))
+  pub rows_without : (n : ℕ) → ((k : ℕ) → number_in_slot number slots k ≢ Some n) → (es : List (ℕ
+      × ℕ))
       → rows_listed number slots (remove_entry (nat_eq n) es) ≡ rows_listed number slots es
   rows_without n free [] = refl
   rows_without n free (e ∷ es) = by (rows_without n free es) (eqb_tells n e.0)
@@ -123,7 +124,7 @@ module _ {R : Type 0} (number : R → ℕ) (slots : List (Option R)) where
           ap (λ b. rows_listed number slots (cond b es (e ∷ left))) a.0
           ∙ ap (cons_option (its_row number slots e.0 e.1)) ih
 
-  pub IsNumbered-without : (n : ℕ) → ((k : ℕ) → number_in number slots k ≢ Some n)
+  pub IsNumbered-without : (n : ℕ) → ((k : ℕ) → number_in_slot number slots k ≢ Some n)
       → (es : List (ℕ × ℕ)) → IsNumbered number slots es
       → IsNumbered number slots (remove_entry (nat_eq n) es)
   IsNumbered-without n free es h = record {
@@ -133,7 +134,7 @@ module _ {R : Type 0} (number : R → ℕ) (slots : List (Option R)) where
     counted = h.counted ∙ sym (ap length (rows_without n free es));
   }
     where
-      apart : (k m : ℕ) → number_in number slots k ≡ Some m → Tells m n → nat_eq m n ≡ false
+      apart : (k m : ℕ) → number_in_slot number slots k ≡ Some m → Tells m n → nat_eq m n ≡ false
       apart k m e (inl s) = absurd (free k (e ∙ ap Some s.1))
       apart k m e (inr a) = a.0
 

@@ -4,8 +4,9 @@ use Rattle.std.proofs.Common.{◌++◌, Option, Some, None, refl, sym, ap, subst
 use Rattle.std.proofs.lemmas.List.{append-nil, append_assoc}
 use Rattle.pt_table.specs.declared.objects.ObjectRow.{ObjectRow}
 use Rattle.pt_table.specs.ObjectRows.{has_object}
-use Rattle.pt_table.specs.Linked.{is_linked, last_number, next_number, number_before, unlinked}
-use Rattle.pt_table.specs.Linked.{IsChain, IsOneOf, IsRising, Leads}
+use Rattle.pt_table.specs.Linked.{is_linked, last_number, next_number, number_before}
+use Rattle.pt_table.specs.Linked.{rows_without_links}
+use Rattle.pt_table.specs.Linked.{IsRowChain, IsOneOf, IsRising, IsLinkedList}
 use Rattle.pt_table.proofs.Chained.{differs, same}
 use Rattle.pt_table.proofs.ChainCallers.{same-has}
 use Rattle.pt_table.proofs.Members.{in-right, pick}
@@ -25,14 +26,15 @@ module _ (nx nx2 bf bf2 : ℕ → Option ℕ) (lk lk2 : ℕ → Bool) where
   -- numbers with the same links form the same chain
   pub same-leads : (p h : Option ℕ) (ns : List ℕ)
       → ((m : ℕ) → IsOneOf ns m → nx2 m ≡ nx m) → ((m : ℕ) → IsOneOf ns m → bf2 m ≡ bf m)
-      → ((m : ℕ) → IsOneOf ns m → lk2 m ≡ lk m) → Leads nx bf lk p h ns → Leads nx2 bf2 lk2 p h ns
+      → ((m : ℕ) → IsOneOf ns m → lk2 m ≡ lk m) → IsLinkedList nx bf lk p h ns
+      → IsLinkedList nx2 bf2 lk2 p h ns
   same-leads p h [] a b c l = l
   same-leads p h (n ∷ ns) a b c l = (
     l.0,
     c n (inl refl) ∙ l.1,
     b n (inl refl) ∙ l.2,
     l.3,
-    subst (λ x. Leads nx2 bf2 lk2 (Some n) x ns) (sym (a n (inl refl)))
+    subst (λ x. IsLinkedList nx2 bf2 lk2 (Some n) x ns) (sym (a n (inl refl)))
         (same-leads (Some n) (nx n) ns (λ m i. a m (inr i)) (λ m i. b m (inr i))
         (λ m i. c m (inr i)) l.4),
   )
@@ -42,12 +44,13 @@ module _ {T : Type 0} (old now : List (ObjectRow T)) (all : List ℕ) where
   pub record IsRelinked (left : List ℕ) (head : Option ℕ) : Type 0 where
     pub done : List ℕ
     pub split : all ≡ left ++ done
-    pub chain : Leads (next_number now) (number_before now) (is_linked now) (last_number left)
+    pub chain : IsLinkedList (next_number now) (number_before now) (is_linked now)
+        (last_number left)
         head done
     pub next : (n : ℕ) → (IsOneOf done n → ⊥) → next_number now n ≡ next_number old n
     pub before : (n : ℕ) → (IsOneOf done n → ⊥) → number_before now n ≡ number_before old n
     pub linked : (n : ℕ) → (IsOneOf done n → ⊥) → is_linked now n ≡ is_linked old n
-    pub rows : unlinked now ≡ unlinked old
+    pub rows : rows_without_links now ≡ rows_without_links old
 
 pub relinks-none : {T : Type 0} (old : List (ObjectRow T)) (all : List ℕ)
     → IsRelinked old old all all None
@@ -80,7 +83,7 @@ module _ {T : Type 0} (old now : List (ObjectRow T)) (all left : List ℕ) (head
         (before : (n : ℕ)
         → number_before new n ≡ cond (nat_eq number n) (last_number rest) (number_before now n))
         (linked : (n : ℕ) → is_linked new n ≡ cond (nat_eq number n) true (is_linked now n))
-        (rows : unlinked new ≡ unlinked now) where
+        (rows : rows_without_links new ≡ rows_without_links now) where
       -- the number differs from those that come after it
       apart : (n : ℕ) → IsOneOf d.done n → number ≡ n → ⊥
       apart n i e =
@@ -99,7 +102,8 @@ module _ {T : Type 0} (old now : List (ObjectRow T)) (all left : List ℕ) (head
           before number
               ∙ ap (λ b. cond b (last_number rest) (number_before now number)) (same number),
           λ i. apart number i refl,
-          subst (λ h. Leads (next_number new) (number_before new) (is_linked new) (Some number) h
+          subst (λ h. IsLinkedList (next_number new) (number_before new) (is_linked new)
+              (Some number) h
               d.done)
               (sym (next number ∙ ap (λ b. cond b head (next_number now number)) (same number)))
               (same-leads (next_number now) (next_number new) (number_before now)
@@ -111,7 +115,7 @@ module _ {T : Type 0} (old now : List (ObjectRow T)) (all left : List ℕ) (head
               (differs number n (apart n i)))
               (λ n i. linked n
               ∙ ap (λ b. cond b true (is_linked now n)) (differs number n (apart n i)))
-              (subst (λ p. Leads (next_number now) (number_before now) (is_linked now) p head
+              (subst (λ p. IsLinkedList (next_number now) (number_before now) (is_linked now) p head
               d.done) (ap last_number last ∙ last-put rest number) d.chain)),
         );
         next = λ n out.
@@ -135,10 +139,10 @@ module _ {T : Type 0} (old now : List (ObjectRow T)) (all left : List ℕ) (head
     whole : all ≡ d.done
     whole = d.split ∙ ap (λ ns. ns ++ d.done) e
 
-    pub relinks-all : IsChain now head all
+    pub relinks-all : IsRowChain now head all
     relinks-all =
-        subst (IsChain now head) (sym whole)
-        (subst (λ ns. Leads (next_number now) (number_before now) (is_linked now)
+        subst (IsRowChain now head) (sym whole)
+        (subst (λ ns. IsLinkedList (next_number now) (number_before now) (is_linked now)
         (last_number ns) head d.done) e d.chain)
 
     pub is-out : (n : ℕ) → (IsOneOf all n → ⊥) → IsOneOf d.done n → ⊥

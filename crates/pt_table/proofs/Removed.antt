@@ -10,7 +10,7 @@ use Rattle.std.specs.Map.{lookup}
 use Rattle.std.proofs.lemmas.Bool.{eq-eqb}
 use Rattle.std.proofs.lemmas.Bool.Decides.{eqb_tells}
 use Rattle.pt_table.specs.Rows.{row_at, without}
-use Rattle.pt_table.specs.Slots.{row_in_slot, number_in, with_number, its_row, rows_listed}
+use Rattle.pt_table.specs.Slots.{row_in_slot, number_in_slot, with_number, its_row, rows_listed}
 use Rattle.pt_table.specs.Slots.{Distinct, IsNumbered}
 use Rattle.pt_table.proofs.Lookups.{some_inj, none_some}
 use Rattle.std.specs.Prelude.{OnSome}
@@ -75,7 +75,7 @@ module _ {R : Type 0} {number : R → ℕ} {slots : List (Option R)} {numbers : 
   other_slot part k x e same =
       none_some (sym (ap (option_map part) (ap (row_in_slot left) same ∙ empty)) ∙ e)
 
-  there : number_in number slots slot ≡ Some n
+  there : number_in_slot number slots slot ≡ Some n
   there = ap (option_map number) here ∙ ap Some its
 
   -- whether a row stays

@@ -6,7 +6,8 @@ use Rattle.std.specs.List.Sorted.{IsNonDecreasing}
 use Rattle.std.proofs.Math.Seq.{take-suc}
 use Rattle.std.proofs.lemmas.List.Sorted.{IsPermutation-sym}
 use Rattle.pt_table.specs.declared.objects.ObjectRow.{ObjectRow}
-use Rattle.pt_table.specs.Linked.{is_linked, next_number, number_before, IsChain, IsOneOf, IsRising}
+use Rattle.pt_table.specs.Linked.{is_linked, next_number, number_before, IsRowChain, IsOneOf}
+use Rattle.pt_table.specs.Linked.{IsRising}
 use Rattle.pt_table.specs.Linked.{IsSortedTo, KeepsOthers}
 use Rattle.pt_table.proofs.Chained.{all-linked, same-list}
 use Rattle.pt_table.proofs.Counted.{once-chain, chain-fits}
@@ -35,7 +36,7 @@ short-rises (n ∷ k ∷ ns) e = absurd (omega (arith, e))
 
 module _ {T : Type 0} where
   module _ (old : List (ObjectRow T)) (head : Option ℕ) (ns ms : List ℕ)
-      (chain : IsChain old head ns) (moved : IsPermutation ns ms) where
+      (chain : IsRowChain old head ns) (moved : IsPermutation ns ms) where
     pub sorted-rise : IsNonDecreasing ms → IsRising ms
     sorted-rise up =
         sorted-rises ns ms
@@ -49,7 +50,7 @@ module _ {T : Type 0} where
     still-there n i = members ms ns (IsPermutation-sym ns ms moved) n i
 
     pub sorted-to : (new : List (ObjectRow T)) (after : Option ℕ) → IsNonDecreasing ms
-        → IsChain new after ms → IsSortedTo old new head after
+        → IsRowChain new after ms → IsSortedTo old new head after
     sorted-to new after up linked numbers l =
         let e : ns ≡ numbers =
         same-list (next_number old) (number_before old) (is_linked old) None head ns numbers chain
@@ -64,7 +65,7 @@ module _ {T : Type 0} where
         )
 
     -- the same numbers are linked as before
-    pub linked-again : (new : List (ObjectRow T)) (after : Option ℕ) → IsChain new after ms
+    pub linked-again : (new : List (ObjectRow T)) (after : Option ℕ) → IsRowChain new after ms
         → ((n : ℕ) → (IsOneOf ms n → ⊥) → is_linked new n ≡ is_linked old n)
         → (n : ℕ) → is_linked new n ≡ is_linked old n
     linked-again new after l back n = elim (in-or-out ns n) [
@@ -96,12 +97,12 @@ module _ {T : Type 0} where
 
   -- a chain whose numbers rise is in order
   pub risen-sorted : (rows : List (ObjectRow T)) (head : Option ℕ)
-      → ((ns : List ℕ) → IsChain rows head ns → IsRising ns) → IsSortedTo rows rows head head
+      → ((ns : List ℕ) → IsRowChain rows head ns → IsRising ns) → IsSortedTo rows rows head head
   risen-sorted rows head up ns l = (ns, l, up ns l, λ n. (λ i. i, λ i. i))
 
   -- each chain of a table with at most one row rises
   pub table-rises : (rows : List (ObjectRow T)) (head : Option ℕ) → length rows < 2
-      → (ns : List ℕ) → IsChain rows head ns → IsRising ns
+      → (ns : List ℕ) → IsRowChain rows head ns → IsRising ns
   table-rises rows head few ns l =
       let fits = chain-fits rows head ns l in
       short-rises ns (omega (arith, fits, few))

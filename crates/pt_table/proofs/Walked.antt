@@ -4,19 +4,21 @@ use Rattle.std.proofs.Common.{None, refl, sym}
 use Rattle.std.proofs.Common.{subst, arith}
 use Rattle.pt_table.specs.declared.objects.ObjectRow.{ObjectRow}
 use Rattle.std.specs.List.{AllByRecursion as Each}
-use Rattle.pt_table.specs.Linked.{is_linked, next_number, number_before, IsChain, IsRising, Leads}
+use Rattle.pt_table.specs.Linked.{is_linked, next_number, number_before, IsRowChain, IsRising}
+use Rattle.pt_table.specs.Linked.{IsLinkedList}
 use Rattle.pt_table.proofs.Lookups.{some_inj, none_some}
 
 module _ {T : Type 0} (rows : List (ObjectRow T)) where
   -- some rows of a chain, from here on
   abbrev pub IsRest : Option ℕ → List ℕ → Type 0
   IsRest rest left =
-      (p : Option ℕ) × Leads (next_number rows) (number_before rows) (is_linked rows) p rest left
+      (p : Option ℕ) × IsLinkedList (next_number rows) (number_before rows)
+      (is_linked rows) p rest left
 
   -- this many steps from the head of a chain, the others of its rows are left
   abbrev pub IsWalked : Option ℕ → ℕ → Option ℕ → Type 0
   IsWalked head steps rest =
-      (ns : List ℕ) → IsChain rows head ns
+      (ns : List ℕ) → IsRowChain rows head ns
       → (left : List ℕ) × IsRest rest left × (length ns ≡ steps + length left)
 
   pub walk-begins : (head : Option ℕ) → IsWalked head 0 head
@@ -34,14 +36,14 @@ module _ {T : Type 0} (rows : List (ObjectRow T)) where
         more,
         (
           Some n,
-          subst (λ m. Leads (next_number rows) (number_before rows) (is_linked rows)
+          subst (λ m. IsLinkedList (next_number rows) (number_before rows) (is_linked rows)
               (Some n) (next_number rows m) more) (sym (some_inj (sym e ∙ r.1.0))) r.1.4,
         ),
         omega (arith, sum),
       )
 
   pub walk-ends : (head rest : Option ℕ) (steps : ℕ) → IsWalked head steps rest → rest ≡ None
-      → (ns : List ℕ) → IsChain rows head ns → length ns ≤ steps
+      → (ns : List ℕ) → IsRowChain rows head ns → length ns ≤ steps
   walk-ends head rest steps w e ns l = go (w ns l).0 (w ns l).1 (w ns l).2
     where
       go : (left : List ℕ) → IsRest rest left → length ns ≡ steps + length left
@@ -52,7 +54,7 @@ module _ {T : Type 0} (rows : List (ObjectRow T)) where
   -- the numbers of a chain rise if those from this one on do
   abbrev pub IsRisingTo : Option ℕ → ℕ → Type 0
   IsRisingTo head last =
-      (ns : List ℕ) → IsChain rows head ns
+      (ns : List ℕ) → IsRowChain rows head ns
       → (left : List ℕ) × IsRest (Some last) (last ∷ left)
       × (IsRising (last ∷ left) → IsRising ns)
 
@@ -97,7 +99,7 @@ module _ {T : Type 0} (rows : List (ObjectRow T)) where
           )
 
   pub rise-ends : (head : Option ℕ) (last : ℕ) → IsRisingTo head last
-      → next_number rows last ≡ None → (ns : List ℕ) → IsChain rows head ns → IsRising ns
+      → next_number rows last ≡ None → (ns : List ℕ) → IsRowChain rows head ns → IsRising ns
   rise-ends head last to e ns l = go (to ns l).0 (to ns l).1 (to ns l).2
     where
       go : (left : List ℕ) → IsRest (Some last) (last ∷ left)
@@ -106,7 +108,7 @@ module _ {T : Type 0} (rows : List (ObjectRow T)) where
       go (n ∷ more) r up = absurd (none_some (sym e ∙ r.1.4.0))
 
   -- an empty chain rises
-  pub rise-none : (head : Option ℕ) → head ≡ None → (ns : List ℕ) → IsChain rows head ns
+  pub rise-none : (head : Option ℕ) → head ≡ None → (ns : List ℕ) → IsRowChain rows head ns
       → IsRising ns
   rise-none head e [] l = tt
   rise-none head e (n ∷ ns) l = absurd (none_some (sym e ∙ l.0))

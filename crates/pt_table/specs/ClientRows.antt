@@ -3,7 +3,7 @@ use Rattle.std.specs.Prelude.{◌≡◌, ◌≤◌, ℕ, Bool, false, List, [], 
 use Rattle.std.specs.Prelude.{length}
 use Rattle.std.specs.Prelude.{slice_get}
 use Rattle.std.specs.Option.{option_map}
-use Rattle.pt_types.specs.Limits.{most_clients}
+use Rattle.pt_types.specs.Limits.{max_clients}
 use Rattle.pt_table.specs.declared.clients.ClientRow.{ClientRow}
 use Rattle.pt_table.specs.Rows.{row_at, without, changed_at}
 use Rattle.pt_table.specs.declared.rows.Rows.{Rows}
@@ -24,7 +24,7 @@ module _ {T : Type 0} where
 
   -- no client has the number yet, and the table is at its limit of clients
   abbrev pub IsFullFor : List (ClientRow T) → ℕ → Type 0
-  IsFullFor rows number = (has_client rows number ≡ false) × (length rows ≡ most_clients)
+  IsFullFor rows number = (has_client rows number ≡ false) × (length rows ≡ max_clients)
 
   -- the number of the row at an index, and its value
   abbrev pub nth_number : List (ClientRow T) → ℕ → Option ℕ
@@ -50,4 +50,4 @@ module _ {T : Type 0} where
   abbrev pub AreClients : {A : Type 0} → Rows (ClientRow T) A → Type 0
   AreClients table =
       IsTable (λ row. row.number) table
-      × (length (rows_of (λ row. row.number) table) ≤ most_clients)
+      × (length (rows_of (λ row. row.number) table) ≤ max_clients)

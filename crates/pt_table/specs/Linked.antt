@@ -13,8 +13,8 @@ IsOneOf [] n = ⊥
 IsOneOf (m ∷ ms) n = (n ≡ m) ⊎ IsOneOf ms n
 
 -- the two lists have no number in common
-abbrev pub AreApart : List ℕ → List ℕ → Type 0
-AreApart ns ms = (n : ℕ) → IsOneOf ns n → IsOneOf ms n → ⊥
+abbrev pub AreDisjoint : List ℕ → List ℕ → Type 0
+AreDisjoint ns ms = (n : ℕ) → IsOneOf ns n → IsOneOf ms n → ⊥
 
 -- the numbers without this one
 abbrev pub but_number : List ℕ → ℕ → List ℕ
@@ -22,17 +22,18 @@ but_number ns n = filter (λ m. not (nat_eq n m)) ns
 
 -- from the head, each number leads to the next one and back to the one before it, all are linked,
 -- and no number comes twice
-abbrev pub Leads : (ℕ → Option ℕ) → (ℕ → Option ℕ) → (ℕ → Bool) → Option ℕ → Option ℕ → List ℕ
+abbrev pub IsLinkedList : (ℕ → Option ℕ) → (ℕ → Option ℕ) → (ℕ → Bool) → Option ℕ → Option ℕ
+    → List ℕ
     → Type 0
-Leads next before linked previous head [] = head ≡ None
-Leads next before linked previous head (n ∷ ns) =
+IsLinkedList next before linked previous head [] = head ≡ None
+IsLinkedList next before linked previous head (n ∷ ns) =
     (head ≡ Some n) × (linked n ≡ true) × (before n ≡ previous) × (IsOneOf ns n → ⊥)
-    × Leads next before linked (Some n) (next n) ns
+    × IsLinkedList next before linked (Some n) (next n) ns
 
 -- whether the number is present and equals this one
-abbrev pub is_number : Option ℕ → ℕ → Bool
-is_number None n = false
-is_number (Some m) n = nat_eq m n
+abbrev pub is_this_number : Option ℕ → ℕ → Bool
+is_this_number None n = false
+is_this_number (Some m) n = nat_eq m n
 
 -- the last number of a list, if any
 abbrev pub last_number : List ℕ → Option ℕ
@@ -68,38 +69,38 @@ module _ {T : Type 0} where
   IsLinkedIf rows number = (n : ℕ) → number ≡ Some n → is_linked rows n ≡ true
 
   -- the chain of this head has exactly these numbers, in this order
-  abbrev pub IsChain : List (ObjectRow T) → Option ℕ → List ℕ → Type 0
-  IsChain rows head numbers =
-      Leads (next_number rows) (number_before rows) (is_linked rows) None head numbers
+  abbrev pub IsRowChain : List (ObjectRow T) → Option ℕ → List ℕ → Type 0
+  IsRowChain rows head numbers =
+      IsLinkedList (next_number rows) (number_before rows) (is_linked rows) None head numbers
 
   -- the links from this head form a chain, which may be empty
   abbrev pub HasChain : List (ObjectRow T) → Option ℕ → Type 0
-  HasChain rows head = (numbers : List ℕ) × IsChain rows head numbers
+  HasChain rows head = (numbers : List ℕ) × IsRowChain rows head numbers
 
-  -- the chain of this head has at most `most` rows
-  abbrev pub IsAtMost : List (ObjectRow T) → Option ℕ → ℕ → Type 0
-  IsAtMost rows head most =
-      (numbers : List ℕ) → IsChain rows head numbers → length numbers ≤ most
+  -- the chain of this head has at most `max_len` rows
+  abbrev pub HasMaxLength : List (ObjectRow T) → Option ℕ → ℕ → Type 0
+  HasMaxLength rows head max_len =
+      (numbers : List ℕ) → IsRowChain rows head numbers → length numbers ≤ max_len
 
   -- the links from this head form a chain, and the object's row is in it
   abbrev pub IsInChain : List (ObjectRow T) → ℕ → ℕ → Type 0
   IsInChain rows head number =
-      (numbers : List ℕ) × IsChain rows (Some head) numbers × IsOneOf numbers number
+      (numbers : List ℕ) × IsRowChain rows (Some head) numbers × IsOneOf numbers number
 
   -- chains that share no row with the chain of this head are unchanged
   abbrev pub KeepsOthers : List (ObjectRow T) → List (ObjectRow T) → Option ℕ → Type 0
   KeepsOthers old new head =
-      (numbers : List ℕ) → IsChain old head numbers → (other : Option ℕ) (others : List ℕ)
-      → IsChain old other others → AreApart numbers others → IsChain new other others
+      (numbers : List ℕ) → IsRowChain old head numbers → (other : Option ℕ) (others : List ℕ)
+      → IsRowChain old other others → AreDisjoint numbers others → IsRowChain new other others
 
   -- the rows, with every link replaced by that of a row in no chain
-  abbrev pub unlinked : List (ObjectRow T) → List (ObjectRow T)
-  unlinked rows = map (λ (row : ObjectRow T). record row { link = out_of_chains }) rows
+  abbrev pub rows_without_links : List (ObjectRow T) → List (ObjectRow T)
+  rows_without_links rows = map (λ (row : ObjectRow T). record row { link = out_of_chains }) rows
 
   -- the chain of the first head, which begins at the second one afterwards, has the same numbers in
   -- rising order
   abbrev pub IsSortedTo : List (ObjectRow T) → List (ObjectRow T) → Option ℕ → Option ℕ → Type 0
   IsSortedTo old new head after =
-      (numbers : List ℕ) → IsChain old head numbers
-      → (sorted : List ℕ) × IsChain new after sorted × IsRising sorted
+      (numbers : List ℕ) → IsRowChain old head numbers
+      → (sorted : List ℕ) × IsRowChain new after sorted × IsRising sorted
       × ((n : ℕ) → IsOneOf sorted n ↔ IsOneOf numbers n)

@@ -3,7 +3,7 @@ use Rattle.std.specs.Prelude.{◌≡◌, ◌≤◌, ℕ, ◌||◌, Bool, false, 
 use Rattle.std.specs.Prelude.{find}
 use Rattle.std.specs.Prelude.{is_some, length, slice_get}
 use Rattle.std.specs.Option.{option_map}
-use Rattle.pt_types.specs.Limits.{most_objects}
+use Rattle.pt_types.specs.Limits.{max_objects}
 use Rattle.pt_types.specs.Names.{same_name}
 use Rattle.pt_table.specs.declared.link.Link.{Link}
 use Rattle.pt_table.specs.declared.objects.ObjectRow.{ObjectRow}
@@ -27,12 +27,12 @@ module _ {T : Type 0} where
   object_value rows number = option_map (λ row. row.value) (object_at rows number)
 
   -- the row of the object with this name
-  abbrev pub object_named : List (ObjectRow T) → List ℕ → Option (ObjectRow T)
-  object_named rows name = find (λ row. same_name name row.name) rows
+  abbrev pub row_with_name : List (ObjectRow T) → List ℕ → Option (ObjectRow T)
+  row_with_name rows name = find (λ row. same_name name row.name) rows
 
   -- the number of the object with this name
-  abbrev pub number_of : List (ObjectRow T) → List ℕ → Option ℕ
-  number_of rows name = option_map (λ row. row.number) (object_named rows name)
+  abbrev pub number_of_name : List (ObjectRow T) → List ℕ → Option ℕ
+  number_of_name rows name = option_map (λ row. row.number) (row_with_name rows name)
 
   -- the link of the row of the object with this number
   abbrev pub link_of : List (ObjectRow T) → ℕ → Option Link
@@ -43,12 +43,12 @@ module _ {T : Type 0} where
   has_object rows number = is_some (object_at rows number)
 
   -- whether an object has this number or this name
-  abbrev pub is_taken : List (ObjectRow T) → ℕ → List ℕ → Bool
-  is_taken rows number name = has_object rows number || is_some (object_named rows name)
+  abbrev pub is_in_use : List (ObjectRow T) → ℕ → List ℕ → Bool
+  is_in_use rows number name = has_object rows number || is_some (row_with_name rows name)
 
   -- no object has the number or the name yet, and the table is at its limit of objects
   abbrev pub IsFullFor : List (ObjectRow T) → ℕ → List ℕ → Type 0
-  IsFullFor rows number name = (is_taken rows number name ≡ false) × (length rows ≡ most_objects)
+  IsFullFor rows number name = (is_in_use rows number name ≡ false) × (length rows ≡ max_objects)
 
   -- the number of the row at an index, and its value
   abbrev pub nth_number : List (ObjectRow T) → ℕ → Option ℕ
@@ -80,5 +80,5 @@ module _ {T : Type 0} where
   abbrev pub AreObjects : {A : Type 0} → Rows (ObjectRow T) A → List (List ℕ × ℕ) → Type 0
   AreObjects table names =
       IsTable (λ row. row.number) table
-      × (length (rows_of (λ row. row.number) table) ≤ most_objects)
+      × (length (rows_of (λ row. row.number) table) ≤ max_objects)
       × IsNamed table.rows.slots names

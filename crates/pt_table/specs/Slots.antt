@@ -40,8 +40,8 @@ module _ {R : Type 0} where
 
 module _ {R : Type 0} (number : R → ℕ) where
   -- the number of the row in a slot
-  abbrev pub number_in : List (Option R) → ℕ → Option ℕ
-  number_in slots slot = option_map number (row_in_slot slots slot)
+  abbrev pub number_in_slot : List (Option R) → ℕ → Option ℕ
+  number_in_slot slots slot = option_map number (row_in_slot slots slot)
 
   -- the row, if it has this number
   abbrev pub with_number : ℕ → R → Option R
@@ -58,7 +58,7 @@ module _ {R : Type 0} (number : R → ℕ) where
 
   -- each row's number leads to the row's slot, no number is listed twice, and each row is counted
   pub record IsNumbered (slots : List (Option R)) (numbers : List (ℕ × ℕ)) : Type 0 where
-    pub numbered : (slot n : ℕ) → number_in slots slot ≡ Some n
+    pub numbered : (slot n : ℕ) → number_in_slot slots slot ≡ Some n
         → lookup (nat_eq n) numbers ≡ Some slot
     pub distinct : Distinct numbers
     pub counted : count_by is_some slots ≡ length (rows_listed slots numbers)

@@ -3,8 +3,9 @@
 ghost use Rattle.std.specs.Prelude.{◌≡◌, ◌||◌, ◌&&◌, ◌∷◌, ℕ, List, Some, None, true, false, not};
 ghost use Rattle.std.specs.Prelude.{nat_eq, if◌then◌else◌};
 ghost use Rattle.pt_table.specs.ObjectRows.{has_object};
-ghost use Rattle.pt_table.specs.Linked.{next_number, number_before, is_linked, is_number};
-ghost use Rattle.pt_table.specs.Linked.{but_number, unlinked, HasChain, IsChain, IsInChain};
+ghost use Rattle.pt_table.specs.Linked.{next_number, number_before, is_linked, is_this_number};
+ghost use Rattle.pt_table.specs.Linked.{but_number, rows_without_links, HasChain, IsRowChain};
+ghost use Rattle.pt_table.specs.Linked.{IsInChain};
 ghost use Rattle.pt_table.specs.Linked.{IsLinkedIf, KeepsOthers};
 
 use crate::link::{Link, noted};
@@ -35,10 +36,10 @@ impl<T, A: Allocator + Copy> Objects<T, A> {
         requires { IsLinkedIf self.old number }
         ensures next { (n : ℕ)
             → next_number self.new n
-            ≡ (if is_number number n then link.next else next_number self.old n) }
+            ≡ (if is_this_number number n then link.next else next_number self.old n) }
         ensures before { (n : ℕ) → number_before self.new n ≡ number_before self.old n }
         ensures linked { (n : ℕ) → is_linked self.new n ≡ is_linked self.old n }
-        ensures rows { unlinked self.new ≡ unlinked self.old }
+        ensures rows { rows_without_links self.new ≡ rows_without_links self.old }
     {
         if let Some(number) = number {
             let mut its = self.link_near(slot, number);
@@ -54,9 +55,9 @@ impl<T, A: Allocator + Copy> Objects<T, A> {
         ensures next { (n : ℕ) → next_number self.new n ≡ next_number self.old n }
         ensures before { (n : ℕ)
             → number_before self.new n
-            ≡ (if is_number number n then link.before else number_before self.old n) }
+            ≡ (if is_this_number number n then link.before else number_before self.old n) }
         ensures linked { (n : ℕ) → is_linked self.new n ≡ is_linked self.old n }
-        ensures rows { unlinked self.new ≡ unlinked self.old }
+        ensures rows { rows_without_links self.new ≡ rows_without_links self.old }
     {
         if let Some(number) = number {
             let mut its = self.link_near(slot, number);
@@ -79,7 +80,7 @@ impl<T, A: Allocator + Copy> Objects<T, A> {
         ensures linked { (n : ℕ)
             → is_linked self.new n
             ≡ (if nat_eq number n then link.linked else is_linked self.old n) }
-        ensures rows { unlinked self.new ≡ unlinked self.old }
+        ensures rows { rows_without_links self.new ≡ rows_without_links self.old }
     {
         self.set_link(slot, number, link);
     }
@@ -92,12 +93,12 @@ impl<T, A: Allocator + Copy> Objects<T, A> {
         requires free { is_linked self.old number ≡ false }
         ensures result { result ≡ number }
         ensures chain { (numbers : List ℕ)
-            → IsChain self.old head numbers
-            → IsChain self.new (Some result) (number ∷ numbers) }
+            → IsRowChain self.old head numbers
+            → IsRowChain self.new (Some result) (number ∷ numbers) }
         ensures others { KeepsOthers self.old self.new head }
         ensures linked { (n : ℕ)
             → is_linked self.new n ≡ (nat_eq number n || is_linked self.old n) }
-        ensures rows { unlinked self.new ≡ unlinked self.old }
+        ensures rows { rows_without_links self.new ≡ rows_without_links self.old }
     {
         let slot = self.slot_near(number);
         let head_slot = self.slot_of_head(head);
@@ -131,19 +132,19 @@ impl<T, A: Allocator + Copy> Objects<T, A> {
             → next_number self.new n
             ≡ (if nat_eq number n
             then None
-            else if is_number (number_before self.old number) n
+            else if is_this_number (number_before self.old number) n
             then next_number self.old number
             else next_number self.old n) }
         ensures before { (n : ℕ)
             → number_before self.new n
             ≡ (if nat_eq number n
             then None
-            else if is_number (next_number self.old number) n
+            else if is_this_number (next_number self.old number) n
             then number_before self.old number
             else number_before self.old n) }
         ensures linked { (n : ℕ)
             → is_linked self.new n ≡ (if nat_eq number n then false else is_linked self.old n) }
-        ensures rows { unlinked self.new ≡ unlinked self.old }
+        ensures rows { rows_without_links self.new ≡ rows_without_links self.old }
     {
         let slot = self.slot_near(number);
         let link = self.link_near(slot, number);
@@ -158,12 +159,12 @@ impl<T, A: Allocator + Copy> Objects<T, A> {
     pub fn unlink(&mut self, head: u64, number: u64) -> Option<u64>
         requires { IsInChain self.old head number }
         ensures chain { (numbers : List ℕ)
-            → IsChain self.old (Some head) numbers
-            → IsChain self.new result (but_number numbers number) }
+            → IsRowChain self.old (Some head) numbers
+            → IsRowChain self.new result (but_number numbers number) }
         ensures others { KeepsOthers self.old self.new (Some head) }
         ensures linked { (n : ℕ)
             → is_linked self.new n ≡ (not (nat_eq number n) && is_linked self.old n) }
-        ensures rows { unlinked self.new ≡ unlinked self.old }
+        ensures rows { rows_without_links self.new ≡ rows_without_links self.old }
     {
         let after = self.take(number);
         if head == number { after } else { Some(head) }

@@ -2,14 +2,14 @@ ghost use Rattle.std.specs.Prelude.{◌≡◌, ◌↔◌, ◌≤◌, ◌<◌, []
 ghost use Rattle.std.specs.Prelude.{false, length, slice_get};
 ghost use Rattle.std.specs.Option.{option_map, option_copied, option_copied_mut};
 ghost use Rattle.std.specs.Borrow.{sem};
-ghost use Rattle.pt_types.specs.Limits.{most_clients};
+ghost use Rattle.pt_types.specs.Limits.{max_clients};
 ghost use Rattle.pt_table.specs.ClientRows.{client_at, client_value, has_client, nth_number};
 ghost use Rattle.pt_table.specs.ClientRows.{nth_value, and_client, without_client, IsFullFor};
 ghost use Rattle.pt_table.specs.Faults.{IsFault};
 
 use crate::fault::TableFault;
 use crate::rows::{Numbered, Rows};
-use pt_types::MOST_CLIENTS;
+use pt_types::MAX_CLIENTS;
 use std::alloc::{Allocator, Global};
 use std::marker::Model;
 
@@ -81,7 +81,7 @@ impl<T, A: Allocator + Copy> Clients<T, A> {
     /// Returns the number of clients.
     pub fn len(&self) -> usize
         ensures len { result ≡ length self.now }
-        ensures within { length self.now ≤ most_clients }
+        ensures within { length self.now ≤ max_clients }
     {
         self.rows.len()
     }
@@ -177,9 +177,9 @@ impl<T, A: Allocator + Copy> Clients<T, A> {
     // Adds a client whose number is new, or returns its value if a growth is refused.
     fn enter(&mut self, number: u64, value: T) -> Result<(), T>
         requires new { has_client self.old number ≡ false }
-        requires room { length self.old < most_clients }
+        requires room { length self.old < max_clients }
         ensures ok { OnOk result (self.new ≡ and_client self.old number value) }
-        ensures err { OnErr result (self.new ≡ self.old) }
+        ensures unchanged { OnErr result (self.new ≡ self.old) }
         ensures handed { IfErr result (λ handed. handed ≡ value) }
     {
         if self.rows.reserve_one().is_err() {
@@ -201,13 +201,13 @@ impl<T, A: Allocator + Copy> Clients<T, A> {
         // A fault is the first one that applies, and the table stays unchanged.
         ensures taken { IsFault TableFault.Taken result ↔ IsTrue (has_client self.old number) }
         ensures at_limit { IsFault TableFault.AtLimit result ↔ IsFullFor self.old number }
-        ensures err { OnErr result (self.new ≡ self.old) }
+        ensures unchanged { OnErr result (self.new ≡ self.old) }
         ensures handed { IfErr result (λ e. e.0 ≡ value) }
     {
         if self.has(number) {
             return Err((value, TableFault::Taken));
         }
-        if self.len() >= MOST_CLIENTS {
+        if self.len() >= MAX_CLIENTS {
             return Err((value, TableFault::AtLimit));
         }
         match self.enter(number, value) {

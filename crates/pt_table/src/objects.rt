@@ -3,10 +3,11 @@ ghost use Rattle.std.specs.Prelude.{IfSome, IfErr, OnOk, OnErr, OnSome, IsTrue, 
 ghost use Rattle.std.specs.Prelude.{false, slice_get};
 ghost use Rattle.std.specs.Option.{option_map, option_copied, option_copied_mut};
 ghost use Rattle.std.specs.Borrow.{sem};
-ghost use Rattle.pt_types.specs.Limits.{most_objects};
+ghost use Rattle.pt_types.specs.Limits.{max_objects};
 ghost use Rattle.pt_table.specs.Faults.{IsFault};
 ghost use Rattle.pt_table.specs.ObjectRows.{object_at, object_value, link_of};
-ghost use Rattle.pt_table.specs.ObjectRows.{number_of, is_taken, nth_number, nth_value, and_object};
+ghost use Rattle.pt_table.specs.ObjectRows.{number_of_name, is_in_use, nth_number, nth_value};
+ghost use Rattle.pt_table.specs.ObjectRows.{and_object};
 ghost use Rattle.pt_table.specs.ObjectRows.{with_link, without_object, IsFullFor};
 
 use crate::fault::TableFault;
@@ -15,7 +16,7 @@ use crate::names::Names;
 use crate::object_slots::row_named;
 use crate::rows::{Numbered, Rows};
 use crate::stored_link::StoredLink;
-use pt_types::{MOST_OBJECTS, Name};
+use pt_types::{MAX_OBJECTS, Name};
 use std::alloc::{AllocError, Allocator, Global};
 use std::marker::Model;
 
@@ -92,7 +93,7 @@ impl<T, A: Allocator + Copy> Objects<T, A> {
     /// Returns the number of objects.
     pub fn len(&self) -> usize
         ensures len { result ≡ length self.now }
-        ensures within { length self.now ≤ most_objects }
+        ensures within { length self.now ≤ max_objects }
     {
         self.rows.len()
     }
@@ -110,7 +111,7 @@ impl<T, A: Allocator + Copy> Objects<T, A> {
 
     /// Returns the number of the object with this name, if there is one.
     pub fn find(&self, name: &Name) -> Option<u64>
-        ensures { result ≡ number_of self.now name.now }
+        ensures { result ≡ number_of_name self.now name.now }
     {
         let (number, _) = self.named(name)?;
         Some(number)
@@ -119,7 +120,7 @@ impl<T, A: Allocator + Copy> Objects<T, A> {
     /// Returns the number and the value of the object with this name, if there is one.
     #[inline(always)]
     pub fn named(&self, name: &Name) -> Option<(u64, &T)>
-        ensures number { option_map (λ p. p.0) result ≡ number_of self.now name.now }
+        ensures number { option_map (λ p. p.0) result ≡ number_of_name self.now name.now }
         ensures value { IfSome result (λ p. object_value self.now p.0 ≡ Some p.1.now) }
     {
         match row_named(&self.rows.rows, &self.names, name) {
@@ -151,8 +152,8 @@ impl<T, A: Allocator + Copy> Objects<T, A> {
         }
     }
 
-    fn is_taken(&self, number: u64, name: &Name) -> bool
-        ensures { result ≡ is_taken self.now number name.now }
+    fn is_in_use(&self, number: u64, name: &Name) -> bool
+        ensures { result ≡ is_in_use self.now number name.now }
     {
         self.rows.slot_of(number).is_some() || self.find(name).is_some()
     }
@@ -235,10 +236,10 @@ impl<T, A: Allocator + Copy> Objects<T, A> {
     // Adds an object whose number and name are new, or returns its value if a growth is refused.
     #[inline(always)]
     fn enter(&mut self, number: u64, name: &Name, value: T) -> Result<(), T>
-        requires new { is_taken self.old number name.now ≡ false }
-        requires room { length self.old < most_objects }
+        requires new { is_in_use self.old number name.now ≡ false }
+        requires room { length self.old < max_objects }
         ensures ok { OnOk result (self.new ≡ and_object self.old number name.now value) }
-        ensures err { OnErr result (self.new ≡ self.old) }
+        ensures unchanged { OnErr result (self.new ≡ self.old) }
         ensures handed { IfErr result (λ handed. handed ≡ value) }
     {
         if self.rows.reserve_one().is_err() {
@@ -267,10 +268,10 @@ impl<T, A: Allocator + Copy> Objects<T, A> {
     pub fn add_new(&mut self, number: u64, name: &Name, value: T) -> Result<(), AllocError>
     where
         T: Drop,
-        requires new { is_taken self.old number name.now ≡ false }
-        requires room { length self.old < most_objects }
+        requires new { is_in_use self.old number name.now ≡ false }
+        requires room { length self.old < max_objects }
         ensures ok { OnOk result (self.new ≡ and_object self.old number name.now value) }
-        ensures err { OnErr result (self.new ≡ self.old) }
+        ensures unchanged { OnErr result (self.new ≡ self.old) }
     {
         match self.enter(number, name, value) {
             Ok(()) => Ok(()),
@@ -288,15 +289,15 @@ impl<T, A: Allocator + Copy> Objects<T, A> {
         ensures ok { OnOk result (self.new ≡ and_object self.old number name value) }
 
         // A fault is the first one that applies, and the table stays unchanged.
-        ensures taken { IsFault TableFault.Taken result ↔ IsTrue (is_taken self.old number name) }
+        ensures taken { IsFault TableFault.Taken result ↔ IsTrue (is_in_use self.old number name) }
         ensures at_limit { IsFault TableFault.AtLimit result ↔ IsFullFor self.old number name }
-        ensures err { OnErr result (self.new ≡ self.old) }
+        ensures unchanged { OnErr result (self.new ≡ self.old) }
         ensures handed { IfErr result (λ e. e.0 ≡ value) }
     {
-        if self.is_taken(number, &name) {
+        if self.is_in_use(number, &name) {
             return Err((value, TableFault::Taken));
         }
-        if self.len() >= MOST_OBJECTS {
+        if self.len() >= MAX_OBJECTS {
             return Err((value, TableFault::AtLimit));
         }
         match self.enter(number, &name, value) {

@@ -24,7 +24,7 @@ pub(crate) trait Numbered {
 }
 
 /// The most numbers whose rows are gone that stay in the map of a table with few rows.
-const MOST_GONE: usize = 64;
+const MAX_FREE_SLOTS: usize = 64;
 
 /// A map from numbers to slots.
 type Slots<A> = IndexMap<u64, usize, BuildHasherDefault<FoldHasher>, A>;
@@ -61,7 +61,7 @@ fn row_if_its<'a, R: Numbered, A: Allocator + Copy>(
 // Lists a number with its slot at the end, after the entry that it had.
 #[cold]
 #[inline(never)]
-fn list_again<A: Allocator + Copy>(slots: &mut Slots<A>, number: u64, slot: usize)
+fn relist<A: Allocator + Copy>(slots: &mut Slots<A>, number: u64, slot: usize)
     requires { 0 < spare slots.old }
     ensures { slots.new.entries
         ≡ without_number slots.old.entries number ++ (number, slot) ∷ [] }
@@ -80,7 +80,7 @@ fn list<A: Allocator + Copy>(slots: &mut Slots<A>, number: u64, slot: usize)
     let inserted: Result<_, _> = slots.insert(number, slot);
     let before: Option<usize> = inserted.unwrap();
     if before.is_some() {
-        list_again(slots, number, slot);
+        relist(slots, number, slot);
     }
 }
 
@@ -166,7 +166,7 @@ impl<R: Numbered, A: Allocator + Copy> Rows<R, A> {
     #[inline(always)]
     pub(crate) fn slot_by(&self, slot: usize, number: u64) -> usize
         requires numbered { IsTable R.its_number self.now }
-        requires there { IsSome (row_at R.its_number (rows_of R.its_number self.now) number) }
+        requires exists { IsSome (row_at R.its_number (rows_of R.its_number self.now) number) }
         ensures { row_in_slot self.now.rows.slots result
             ≡ row_at R.its_number (rows_of R.its_number self.now) number }
     {
@@ -291,7 +291,7 @@ impl<R: Numbered, A: Allocator + Copy> Rows<R, A> {
         ensures rows { rows_of R.its_number self.new ≡ rows_of R.its_number self.old }
         ensures slots { self.new.rows.slots ≡ self.old.rows.slots }
     {
-        if self.slots.len() / 2 > self.rows.len().max(MOST_GONE) {
+        if self.slots.len() / 2 > self.rows.len().max(MAX_FREE_SLOTS) {
             self.pack();
         }
     }

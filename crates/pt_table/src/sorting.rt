@@ -5,21 +5,22 @@ ghost use Rattle.std.specs.Prelude.{◌≡◌, ◌<◌, ◌≤◌, ℕ, List, tr
 ghost use Rattle.std.specs.Prelude.{IsPermutation};
 ghost use Rattle.std.specs.List.Sorted.{IsNonDecreasing};
 ghost use Rattle.pt_table.specs.ObjectRows.{has_object};
-ghost use Rattle.pt_table.specs.Linked.{is_linked, unlinked, HasChain, IsAtMost, IsChain, IsOneOf};
+ghost use Rattle.pt_table.specs.Linked.{is_linked, rows_without_links, HasChain, HasMaxLength};
+ghost use Rattle.pt_table.specs.Linked.{IsRowChain, IsOneOf};
 ghost use Rattle.pt_table.specs.Linked.{IsRising, IsSortedTo, KeepsOthers, last_number};
 ghost use Rattle.pt_table.specs.Linked.{next_number, number_before};
 
 use crate::link::{Link, noted};
 use crate::objects::Objects;
-use pt_types::MOST_OBJECTS;
+use pt_types::MAX_OBJECTS;
 use std::alloc::Allocator;
 
 /// The most rows of a chain that is sorted in a short array. Zeroing an array for all rows that a
 /// table may have would cost more than the sort.
-const FEW: usize = 32;
+const MAX_SORTED_IN_PLACE: usize = 32;
 
 fn sort_numbers(numbers: &mut [u64])
-    ensures same { IsPermutation numbers.old numbers.new }
+    ensures unchanged { IsPermutation numbers.old numbers.new }
     ensures len { length numbers.new ≡ length numbers.old }
     ensures order { IsNonDecreasing numbers.new }
 {
@@ -39,9 +40,9 @@ impl<T, A: Allocator + Copy> Objects<T, A> {
     // are.
     fn gather(&self, head: Option<u64>, numbers: &mut [u64]) -> usize
         requires chain { HasChain self.now head }
-        requires room { IsAtMost self.now head (length numbers.old) }
+        requires room { HasMaxLength self.now head (length numbers.old) }
         ensures len { result ≤ length numbers.new }
-        ensures chain { IsChain self.now head (take result numbers.new) }
+        ensures chain { IsRowChain self.now head (take result numbers.new) }
     {
         let mut rest = head;
         let mut count = 0;
@@ -58,7 +59,7 @@ impl<T, A: Allocator + Copy> Objects<T, A> {
     fn link_each(&mut self, numbers: &[u64]) -> Option<u64>
         requires rising { IsRising numbers.now }
         requires rows { (n : ℕ) → IsOneOf numbers.now n → has_object self.old n ≡ true }
-        ensures chain { IsChain self.new result numbers.now }
+        ensures chain { IsRowChain self.new result numbers.now }
         ensures next { (n : ℕ)
             → (IsOneOf numbers.now n → ⊥)
             → next_number self.new n ≡ next_number self.old n }
@@ -68,7 +69,7 @@ impl<T, A: Allocator + Copy> Objects<T, A> {
         ensures linked { (n : ℕ)
             → (IsOneOf numbers.now n → ⊥)
             → is_linked self.new n ≡ is_linked self.old n }
-        ensures rows { unlinked self.new ≡ unlinked self.old }
+        ensures rows { rows_without_links self.new ≡ rows_without_links self.old }
     {
         let mut head = None;
         let mut head_slot = 0;
@@ -92,11 +93,11 @@ impl<T, A: Allocator + Copy> Objects<T, A> {
     // returns its new head.
     fn sort_by(&mut self, head: Option<u64>, room: &mut [u64]) -> Option<u64>
         requires chain { HasChain self.old head }
-        requires room { IsAtMost self.old head (length room.old) }
+        requires room { HasMaxLength self.old head (length room.old) }
         ensures chain { IsSortedTo self.old self.new head result }
         ensures others { KeepsOthers self.old self.new head }
         ensures linked { (n : ℕ) → is_linked self.new n ≡ is_linked self.old n }
-        ensures rows { unlinked self.new ≡ unlinked self.old }
+        ensures rows { rows_without_links self.new ≡ rows_without_links self.old }
     {
         let count = self.gather(head, room);
         let (numbers, _) = room.split_at_mut(count);
@@ -104,12 +105,12 @@ impl<T, A: Allocator + Copy> Objects<T, A> {
         self.link_each(numbers)
     }
 
-    // Returns whether a chain has at most `most` rows.
-    fn is_within(&self, head: Option<u64>, most: usize) -> bool
-        ensures { OnTrue result (IsAtMost self.now head most) }
+    // Returns whether a chain has at most `max_len` rows.
+    fn is_within(&self, head: Option<u64>, max_len: usize) -> bool
+        ensures { OnTrue result (HasMaxLength self.now head max_len) }
     {
         let mut rest = head;
-        for _ in 0..most {
+        for _ in 0..max_len {
             let Some(first) = rest else {
                 return true;
             };
@@ -122,7 +123,7 @@ impl<T, A: Allocator + Copy> Objects<T, A> {
     // number.
     fn is_rising(&self, head: Option<u64>) -> bool
         ensures { OnTrue result ((numbers : List ℕ)
-            → IsChain self.now head numbers
+            → IsRowChain self.now head numbers
             → IsRising numbers) }
     {
         let Some(mut last) = head else {
@@ -146,14 +147,14 @@ impl<T, A: Allocator + Copy> Objects<T, A> {
         ensures chain { IsSortedTo self.old self.new head result }
         ensures others { KeepsOthers self.old self.new head }
         ensures linked { (n : ℕ) → is_linked self.new n ≡ is_linked self.old n }
-        ensures rows { unlinked self.new ≡ unlinked self.old }
+        ensures rows { rows_without_links self.new ≡ rows_without_links self.old }
     {
         if self.len() < 2 || self.is_rising(head) {
             return head;
         }
-        if self.is_within(head, FEW) {
-            return self.sort_by(head, &mut [0; FEW]);
+        if self.is_within(head, MAX_SORTED_IN_PLACE) {
+            return self.sort_by(head, &mut [0; MAX_SORTED_IN_PLACE]);
         }
-        self.sort_by(head, &mut [0; MOST_OBJECTS])
+        self.sort_by(head, &mut [0; MAX_OBJECTS])
     }
 }

@@ -4,9 +4,9 @@ use Rattle.std.proofs.Common.{Some, None, sym, ap, ◌∙◌, arith}
 use Rattle.std.proofs.lemmas.Bool.{false≢true}
 use Rattle.std.proofs.lemmas.Bool.Decides.{nat_tests}
 use Rattle.pt_types.specs.declared.time.Clock.{Clock}
-use Rattle.pt_types.specs.Times.{Timespec, deadline_nanos, is_bad_deadline, pair_before}
+use Rattle.pt_types.specs.Times.{Timespec, deadline_nanos, is_invalid_deadline, pair_before}
 use Rattle.pt_timers.specs.declared.key.TimerKey.{TimerKey}
-use Rattle.pt_timers.specs.Deadlines.{deadline_at, pair_of, key_of, is_in, most_nanos}
+use Rattle.pt_timers.specs.Deadlines.{deadline_at, pair_of, timer_key, is_in, max_nanos}
 use Rattle.pt_timers.specs.Deadlines.{AreTimers}
 use Rattle.pt_timers.specs.Deadlines.{IsFirstDue, IsLeast}
 
@@ -19,16 +19,16 @@ module _ (places w : List (ℕ × (Clock × ℕ))) (view : places ≡ w)
   where
     -- a deadline that is set is in its order
     listed : (q m : ℕ) → deadline_at w q ≡ Some (k, m)
-        → is_in order (key_of m q) ≡ true
+        → is_in order (timer_key m q) ≡ true
     listed q m e =
-        own (key_of m q)
+        own (timer_key m q)
         ∙ kept.ordered q k m (ap (λ ts. deadline_at ts q) view ∙ e)
 
     module _ (none : (q : TimerKey) → is_in order q ≡ false) where
       -- if the order is empty, nothing is set
       not-set : (q m : ℕ) → deadline_at w q ≡ Some (k, m) → ⊥
       not-set q m e =
-          false≢true (sym (none (key_of m q)) ∙ listed q m e)
+          false≢true (sym (none (timer_key m q)) ∙ listed q m e)
 
       pub no-first : (now : Option ℕ) → IsFirstDue w k now None
       no-first now q m e = absurd (not-set q m e)
@@ -45,13 +45,13 @@ module _ (places w : List (ℕ × (Clock × ℕ))) (view : places ≡ w)
           ap (λ ts. deadline_at ts key.place) (sym view)
           ∙ (kept.placed k key (sym (own key) ∙ there)).0
 
-      pub first-nanos : key.nanos < most_nanos
+      pub first-nanos : key.nanos < max_nanos
       first-nanos = (kept.placed k key (sym (own key) ∙ there)).1
 
       not-sooner : (q m : ℕ) → deadline_at w q ≡ Some (k, m)
           → pair_before (m, q) (pair_of key) ≡ false
       not-sooner q m e =
-          least (key_of m q) (listed q m e)
+          least (timer_key m q) (listed q m e)
 
       pub first-due : (now : ℕ) → key.nanos ≤ now → IsFirstDue w k (Some now) (Some key)
       first-due now le = (here, grind (arith, nat_tests, le), not-sooner)
@@ -62,7 +62,7 @@ module _ (places w : List (ℕ × (Clock × ℕ))) (view : places ≡ w)
           grind (arith, nat_tests, le, late)
 
       pub first-is-least : (d : Timespec) → deadline_nanos d ≡ key.nanos
-          → is_bad_deadline d ≡ false → IsLeast w k (Some d)
+          → is_invalid_deadline d ≡ false → IsLeast w k (Some d)
       first-is-least d nanos time = (
         key.place,
         here ∙ ap (λ n. Some (k, n)) (sym nanos),

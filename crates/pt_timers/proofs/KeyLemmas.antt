@@ -12,8 +12,9 @@ use Rattle.std.specs.Prelude.{IfNone, IfSome}
 use Rattle.std.specs.List.Sorted.{IsPermutation}
 use Rattle.pt_types.specs.Times.{pair_before}
 use Rattle.pt_timers.specs.declared.key.TimerKey.{TimerKey}
-use Rattle.pt_timers.specs.Deadlines.{pair_of, same_key, key_cmp, is_in, is_found, live, is_live}
-use Rattle.pt_timers.specs.Deadlines.{IsFirst}
+use Rattle.pt_timers.specs.Deadlines.{pair_of, same_key, key_cmp, is_in, is_found, live_keys}
+use Rattle.pt_timers.specs.Deadlines.{is_live}
+use Rattle.pt_timers.specs.Deadlines.{IsFirstKey}
 
 -- two keys tie in the order if they are of the same deadline and place
 pub at-same : (q k : TimerKey) → is_at (key_cmp q) k ≡ same_key k q
@@ -65,9 +66,9 @@ others-stay key old kept new is p q =
     alike k e = ap not (grind (arith, nat_tests))
 
 -- a key is live if it is among the keys and isn't canceled
-pub in-live : (keys canceled : List TimerKey) (q : TimerKey)
-    → is_in (live keys canceled) q ≡ is_live keys canceled q
-in-live keys canceled q =
+pub in-live_keys : (keys canceled : List TimerKey) (q : TimerKey)
+    → is_in (live_keys keys canceled) q ≡ is_live keys canceled q
+in-live_keys keys canceled q =
     any-filter_same (is_at (key_cmp q)) (λ k. not (is_in canceled k)) (not (is_in canceled q)) alike
     keys
   where
@@ -98,10 +99,10 @@ bound-in x (k ∷ ks) bound q h = go (bound-in x ks bound.1 q) (is_at (key_cmp q
 
 -- the head of a heap is its first key
 pub head-first : (ks : List TimerKey) (x : TimerKey) → 0 < length ks → x ≡ get_or ks 0 x
-    → IsUpperBound key_cmp x ks → IsFirst ks (Some x)
+    → IsUpperBound key_cmp x ks → IsFirstKey ks (Some x)
 head-first ks x some is bound = (head-in ks x some is, bound-in x ks bound)
 
-pub none-first : (ks : List TimerKey) → (0 < length ks → ⊥) → IsFirst ks None
+pub none-first : (ks : List TimerKey) → (0 < length ks → ⊥) → IsFirstKey ks None
 none-first ks none q = none-in-empty ks none q
 
 neither-before : (a b : TimerKey) → pair_before (pair_of a) (pair_of b) ≡ false
@@ -109,7 +110,8 @@ neither-before : (a b : TimerKey) → pair_before (pair_of a) (pair_of b) ≡ fa
 neither-before a b e f = grind (arith, nat_tests)
 
 -- there is only one first key
-pub one-first : (ks : List TimerKey) (a b : TimerKey) → IsFirst ks (Some a) → IsFirst ks (Some b)
+pub one-first : (ks : List TimerKey) (a b : TimerKey) → IsFirstKey ks (Some a)
+    → IsFirstKey ks (Some b)
     → same_key a b ≡ true
 one-first ks a b f g = neither-before a b (g.1 a f.0) (f.1 b g.0)
 
@@ -118,7 +120,7 @@ same-as a b q e = grind (arith, nat_tests)
 
 -- what a pop says, if the first key is known
 module _ (old new : List TimerKey) (first : TimerKey) (n : ℕ) (len : n ≡ length old)
-    (top : IsFirst old (Some first)) (heap : IsHeap key_cmp old) where
+    (top : IsFirstKey old (Some first)) (heap : IsHeap key_cmp old) where
   some-left : n ≡ 0 → ⊥
   some-left none =
       false≢true (sym (none-in-empty old (λ h. omega (arith, h, len, none)) first) ∙ top.0)
@@ -139,8 +141,9 @@ module _ (old new : List TimerKey) (first : TimerKey) (n : ℕ) (len : n ≡ len
 
 -- after a pop of the first key, no key equal to it is left, unless one is first again
 pub gone : (old mid : List TimerKey) (first : TimerKey) (next : Option TimerKey)
-    → IsFirst old (Some first) → ((q : TimerKey) → is_in old q ≡ (same_key first q || is_in mid q))
-    → IsFirst mid next → is_found next first ≡ false
+    → IsFirstKey old (Some first) → ((q : TimerKey) → is_in old q ≡ (same_key first q
+    || is_in mid q))
+    → IsFirstKey mid next → is_found next first ≡ false
     → (q : TimerKey) → is_in mid q ≡ (not (same_key first q) && is_in old q)
 gone old mid first next top out after other q = go (same_key first q) refl
   where
@@ -148,7 +151,7 @@ gone old mid first next top out after other q = go (same_key first q) refl
     older true c e = refl
     older false c e = e
 
-    none : (f : Option TimerKey) → IsFirst mid f → is_found f first ≡ false
+    none : (f : Option TimerKey) → IsFirstKey mid f → is_found f first ≡ false
         → is_in mid first ≡ true → ⊥
     none None h e there = false≢true (sym (h first) ∙ there)
     none (Some t) h e there =

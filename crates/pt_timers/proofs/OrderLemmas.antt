@@ -7,7 +7,7 @@ use Rattle.std.proofs.lemmas.Bool.{false≢true}
 use Rattle.std.proofs.lemmas.Bool.Decides.{nat_tests}
 use Rattle.pt_types.specs.Times.{pair_before}
 use Rattle.pt_timers.specs.declared.key.TimerKey.{TimerKey}
-use Rattle.pt_timers.specs.Deadlines.{pair_of, same_key, is_found, is_in, is_live, IsFirst}
+use Rattle.pt_timers.specs.Deadlines.{pair_of, same_key, is_found, is_in, is_live, IsFirstKey}
 use Rattle.pt_timers.specs.Deadlines.{key_cmp, ComeBefore, IsOrder}
 use Rattle.pt_timers.proofs.KeyLemmas.{in-same, same-parts-of}
 use Rattle.pt_timers.proofs.StaleLemmas.{more-before, not-before-last, one-moved}
@@ -103,7 +103,7 @@ same-order ks cs new left last keys canceled order =
 
 -- a key that is found first is the first
 pub found-first : (ks : List TimerKey) (found : Option TimerKey) (key : TimerKey)
-    → IsFirst ks found → is_found found key ≡ true → IsFirst ks (Some key)
+    → IsFirstKey ks found → is_found found key ≡ true → IsFirstKey ks (Some key)
 found-first ks None key first is = absurd (false≢true is)
 found-first ks (Some f) key first is =
     let parts = same-parts-of f key is in (
@@ -130,5 +130,5 @@ pub moved-on : (ks new cs left rest moved more : List TimerKey) (x : TimerKey)
     → ((q : TimerKey) → is_live left rest q ≡ is_live new cs q)
     → ((q : TimerKey) → is_in more q ≡ (same_key x q || is_in moved q))
     → (q : TimerKey) → (is_in more q || is_live left rest q) ≡ (is_in moved q || is_live ks cs q)
-moved-on ks new cs left rest moved more x apart out same put q =
-    ap (λ b. is_in more q || b) (same q) ∙ one-moved ks new cs moved more x apart out put q
+moved-on ks new cs left rest moved more x live_first out same put q =
+    ap (λ b. is_in more q || b) (same q) ∙ one-moved ks new cs moved more x live_first out put q

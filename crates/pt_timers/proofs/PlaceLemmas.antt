@@ -10,8 +10,8 @@ use Rattle.pt_types.specs.declared.time.Clock.{Clock}
 use Rattle.pt_types.specs.declared.time.Clock.TheVariants.{Real, Mono}
 use Rattle.pt_timers.specs.declared.key.TimerKey.{TimerKey}
 use Rattle.pt_timers.specs.declared.orders.Orders.{Orders}
-use Rattle.pt_timers.specs.Deadlines.{deadline_at, key_cmp, key_of}
-use Rattle.pt_timers.specs.Orders.{by_places, is_due_at, listed}
+use Rattle.pt_timers.specs.Deadlines.{deadline_at, key_cmp, timer_key}
+use Rattle.pt_timers.specs.Orders.{by_places, is_due_at, timer_list}
 
 -- whether these keys have one that is equal to this
 abbrev has : List TimerKey → TimerKey → Bool
@@ -28,7 +28,7 @@ same-parts k l n m e = (
 )
 
 own-key : (n p : ℕ) (q : TimerKey) → q.nanos ≡ n → q.place ≡ p
-    → is_at (key_cmp (key_of n p)) q ≡ true
+    → is_at (key_cmp (timer_key n p)) q ≡ true
 own-key n p q e f = grind (arith, nat_tests, e, f)
 
 at-key : (a q : TimerKey) → is_at (key_cmp a) q ≡ true → (q.nanos ≡ a.nanos) × (q.place ≡ a.place)
@@ -38,27 +38,27 @@ module _ (k : Clock) (rest : List (ℕ × (Clock × ℕ))) (p : ℕ) where
   -- a deadline that is set at a place is that of a key of this clock, or is set after those
   pub set-in : (qs : List TimerKey) (l : Clock) (n : ℕ)
       → deadline_at (by_places k qs ++ rest) p ≡ Some (l, n)
-      → ((k ≡ l) × (has qs (key_of n p) ≡ true)) ⊎ (deadline_at rest p ≡ Some (l, n))
+      → ((k ≡ l) × (has qs (timer_key n p) ≡ true)) ⊎ (deadline_at rest p ≡ Some (l, n))
   set-in [] l n e = inr e
   set-in (q ∷ qs) l n e = go (set-in qs l n) (q.place == p) refl e
     where
       go : (deadline_at (by_places k qs ++ rest) p ≡ Some (l, n)
-          → ((k ≡ l) × (has qs (key_of n p) ≡ true)) ⊎ (deadline_at rest p ≡ Some (l, n)))
+          → ((k ≡ l) × (has qs (timer_key n p) ≡ true)) ⊎ (deadline_at rest p ≡ Some (l, n)))
           → (b : Bool) → (q.place == p) ≡ b
           → cond b (Some (k, q.nanos)) (deadline_at (by_places k qs ++ rest) p) ≡ Some (l, n)
-          → ((k ≡ l) × (has (q ∷ qs) (key_of n p) ≡ true)) ⊎ (deadline_at rest p ≡ Some (l, n))
+          → ((k ≡ l) × (has (q ∷ qs) (timer_key n p) ≡ true)) ⊎ (deadline_at rest p ≡ Some (l, n))
       go after true t f =
           let parts = same-parts k l q.nanos n f in
           inl (
             parts.0,
-            ap (λ b. b || has qs (key_of n p))
+            ap (λ b. b || has qs (timer_key n p))
                 (own-key n p q parts.1 (same-number q.place p t)),
           )
       go after false t f =
-          ⊎_elim (λ one. inl (one.0, later (is_at (key_cmp (key_of n p)) q) one.1)) (λ o. inr o)
+          ⊎_elim (λ one. inl (one.0, later (is_at (key_cmp (timer_key n p)) q) one.1)) (λ o. inr o)
           (after f)
         where
-          later : (b : Bool) → has qs (key_of n p) ≡ true → (b || has qs (key_of n p)) ≡ true
+          later : (b : Bool) → has qs (timer_key n p) ≡ true → (b || has qs (timer_key n p)) ≡ true
           later true h = refl
           later false h = h
 
@@ -87,22 +87,22 @@ module _ (k : Clock) (rest : List (ℕ × (Clock × ℕ))) (p : ℕ) where
 
 module _ {A : Type 0} (o : Orders A) where
   -- a deadline that is set at a place is due
-  pub is-due : (p : ℕ) (k : Clock) (n : ℕ) → deadline_at (listed o) p ≡ Some (k, n)
-      → is_due_at o k (key_of n p) ≡ true
+  pub is-due : (p : ℕ) (k : Clock) (n : ℕ) → deadline_at (timer_list o) p ≡ Some (k, n)
+      → is_due_at o k (timer_key n p) ≡ true
   is-due p k n e =
-      ⊎_elim (λ one. subst (λ c. is_due_at o c (key_of n p) ≡ true) one.0 one.1) other
+      ⊎_elim (λ one. subst (λ c. is_due_at o c (timer_key n p) ≡ true) one.0 one.1) other
       (set-in Real (by_places Mono o.mono) p o.real k n e)
     where
       other : deadline_at (by_places Mono o.mono) p ≡ Some (k, n)
-          → is_due_at o k (key_of n p) ≡ true
+          → is_due_at o k (timer_key n p) ≡ true
       other f =
-          ⊎_elim (λ one. subst (λ c. is_due_at o c (key_of n p) ≡ true) one.0 one.1)
+          ⊎_elim (λ one. subst (λ c. is_due_at o c (timer_key n p) ≡ true) one.0 one.1)
           (λ none. absurd cc)
           (set-in Mono [] p o.mono k n
           (ap (λ ts. deadline_at ts p) (append-nil (by_places Mono o.mono)) ∙ f))
 
   -- if nothing is set at a place, nothing is due there
-  pub not-due-at : (p : ℕ) → deadline_at (listed o) p ≡ None
+  pub not-due-at : (p : ℕ) → deadline_at (timer_list o) p ≡ None
       → (k : Clock) (q : TimerKey) → q.place ≡ p → is_due_at o k q ≡ true → ⊥
   not-due-at p e Real q at h =
       (none-set Real (by_places Mono o.mono) p o.real e).0 q at h

@@ -6,9 +6,10 @@ use Rattle.std.proofs.lemmas.Bool.{false≢true}
 use Rattle.std.proofs.lemmas.Bool.Decides.{nat_tests}
 use Rattle.pt_types.specs.Times.{pair_before}
 use Rattle.pt_timers.specs.declared.key.TimerKey.{TimerKey}
-use Rattle.pt_timers.specs.Deadlines.{pair_of, same_key, is_in, live, is_live, IsFirst, IsApart}
+use Rattle.pt_timers.specs.Deadlines.{pair_of, same_key, is_in, live_keys, is_live, IsFirstKey}
+use Rattle.pt_timers.specs.Deadlines.{HasLiveFirst}
 use Rattle.pt_timers.specs.Deadlines.{ComeBefore}
-use Rattle.pt_timers.proofs.KeyLemmas.{in-live, in-same, one-first, same-parts-of}
+use Rattle.pt_timers.proofs.KeyLemmas.{in-live_keys, in-same, one-first, same-parts-of}
 
 module _ (ks new cs : List TimerKey) (x : TimerKey)
     (out : (q : TimerKey) → is_in ks q ≡ (same_key x q || is_in new q)) where
@@ -54,7 +55,7 @@ is-false true none = absurd (none refl)
 is-false false none = refl
 
 -- if no key is canceled, the first isn't canceled
-pub none-apart : (ks cs : List TimerKey) → IsFirst cs None → IsApart ks cs
+pub none-apart : (ks cs : List TimerKey) → IsFirstKey cs None → HasLiveFirst ks cs
 none-apart ks cs none t first = none t
 
 sooner-not-in : (a b c : ℕ × ℕ) → pair_before a b ≡ true → pair_before c b ≡ false
@@ -65,8 +66,8 @@ not-itself : (a : ℕ × ℕ) → pair_before a a ≡ false
 not-itself a = grind (arith, nat_tests)
 
 -- if all canceled keys are due after the first key, the first isn't canceled
-pub later-apart : (ks cs : List TimerKey) (a b : TimerKey) → IsFirst ks (Some a)
-    → IsFirst cs (Some b) → pair_before (pair_of a) (pair_of b) ≡ true → IsApart ks cs
+pub later-apart : (ks cs : List TimerKey) (a b : TimerKey) → IsFirstKey ks (Some a)
+    → IsFirstKey cs (Some b) → pair_before (pair_of a) (pair_of b) ≡ true → HasLiveFirst ks cs
 later-apart ks cs a b first other before t top =
     is-false (is_in cs t) (λ h.
     let same = one-first ks a t first top in
@@ -74,23 +75,24 @@ later-apart ks cs a b first other before t top =
     false≢true (sym late ∙ before))
 
 -- a canceled key that is due before the first key is not among the keys
-pub before-first : (ks : List TimerKey) (a b : TimerKey) → IsFirst ks (Some a)
+pub before-first : (ks : List TimerKey) (a b : TimerKey) → IsFirstKey ks (Some a)
     → pair_before (pair_of b) (pair_of a) ≡ true → is_in ks b ≡ false
 before-first ks a b first before =
     is-false (is_in ks b) (λ h. false≢true (sym (first.1 b h) ∙ before))
 
 -- the first key is live
-pub first-live : (ks cs : List TimerKey) (a : TimerKey) → IsFirst ks (Some a) → IsApart ks cs
+pub first-live_keys : (ks cs : List TimerKey) (a : TimerKey) → IsFirstKey ks (Some a)
+    → HasLiveFirst ks cs
     → is_live ks cs a ≡ true
-first-live ks cs a first apart =
-    ap (λ b. not b && is_in ks a) (apart a first) ∙ first.0
+first-live_keys ks cs a first live_first =
+    ap (λ b. not b && is_in ks a) (live_first a first) ∙ first.0
 
 -- a key that is put in, and is no longer canceled, may be the first
-pub put-apart : (ks new cs left : List TimerKey) (x : TimerKey) → IsApart ks cs
+pub put-apart : (ks new cs left : List TimerKey) (x : TimerKey) → HasLiveFirst ks cs
     → ((q : TimerKey) → is_in new q ≡ (same_key x q || is_in ks q))
     → ((q : TimerKey) → is_in left q ≡ (not (same_key x q) && is_in cs q))
-    → IsApart new left
-put-apart ks new cs left x apart put out t top = out t ∙ go (same_key x t) refl
+    → HasLiveFirst new left
+put-apart ks new cs left x live_first put out t top = out t ∙ go (same_key x t) refl
   where
     older : (q : TimerKey) → is_in ks q ≡ true → is_in new q ≡ true
     older q h = put q ∙ (ap (λ b. same_key x q || b) h ∙ always (same_key x q))
@@ -102,14 +104,15 @@ put-apart ks new cs left x apart put out t top = out t ∙ go (same_key x t) ref
     go : (b : Bool) → same_key x t ≡ b → (not b && is_in cs t) ≡ false
     go true e = refl
     go false e =
-        apart t (
+        live_first t (
           sym (ap (λ b. b || is_in ks t) e) ∙ (sym (put t) ∙ top.0),
           λ q h. top.1 q (older q h),
         )
 
 -- a key that is live is among the keys
-pub live-in : (ks cs : List TimerKey) (q : TimerKey) → is_live ks cs q ≡ true → is_in ks q ≡ true
-live-in ks cs q h = go (is_in cs q) h
+pub live_keys-in : (ks cs : List TimerKey) (q : TimerKey) → is_live ks cs q ≡ true → is_in ks q
+    ≡ true
+live_keys-in ks cs q h = go (is_in cs q) h
   where
     go : (b : Bool) → (not b && is_in ks q) ≡ true → is_in ks q ≡ true
     go true e = absurd (false≢true e)
@@ -179,7 +182,7 @@ pub one-moved : (ks new cs moved more : List TimerKey) (x : TimerKey) → is_in 
     → ((q : TimerKey) → is_in more q ≡ (same_key x q || is_in moved q))
     → (q : TimerKey)
     → (is_in more q || is_live new cs q) ≡ (is_in moved q || is_live ks cs q)
-one-moved ks new cs moved more x apart out put q =
+one-moved ks new cs moved more x live_first out put q =
     rw (put q) (rw (out q) (go (same_key x q) refl))
   where
     both : (m n : Bool) → ((true || m) || n) ≡ (m || true)
@@ -190,39 +193,42 @@ one-moved ks new cs moved more x apart out put q =
         → ((b || is_in moved q) || (not (is_in cs q) && is_in new q))
         ≡ (is_in moved q || (not (is_in cs q) && (b || is_in new q)))
     go true e =
-        let stays : is_in cs q ≡ false = sym (in-same cs x q e) ∙ apart in
+        let stays : is_in cs q ≡ false = sym (in-same cs x q e) ∙ live_first in
         rw stays (both (is_in moved q) (is_in new q))
     go false e = refl
 
 -- the first of the keys is the first that is live
-pub live-first : (ks cs w : List TimerKey) (r : Option TimerKey) → live ks cs ≡ w → IsApart ks cs
-    → IsFirst ks r → IsFirst w r
-live-first ks cs w None is apart none = λ q.
+pub live_keys-first : (ks cs w : List TimerKey) (r : Option TimerKey) → live_keys ks cs ≡ w
+    → HasLiveFirst ks cs
+    → IsFirstKey ks r → IsFirstKey w r
+live_keys-first ks cs w None is live_first none = λ q.
     ap (λ l. is_in l q) (sym is)
-    ∙ (in-live ks cs q ∙ (ap (λ b. not (is_in cs q) && b) (none q) ∙ never (is_in cs q)))
+    ∙ (in-live_keys ks cs q ∙ (ap (λ b. not (is_in cs q) && b) (none q) ∙ never (is_in cs q)))
   where
     never : (b : Bool) → (not b && false) ≡ false
     never true = refl
     never false = refl
-live-first ks cs w (Some a) is apart first = (
-  ap (λ l. is_in l a) (sym is) ∙ (in-live ks cs a ∙ first-live ks cs a first apart),
-  λ q h. first.1 q (live-in ks cs q (sym (in-live ks cs q) ∙ (ap (λ l. is_in l q) is ∙ h))),
+live_keys-first ks cs w (Some a) is live_first first = (
+  ap (λ l. is_in l a) (sym is) ∙ (in-live_keys ks cs a ∙ first-live_keys ks cs a first live_first),
+  λ q h. first.1 q (live_keys-in ks cs q (sym (in-live_keys ks cs q) ∙ (ap (λ l. is_in l q) is
+      ∙ h))),
 )
 
-module _ (ks cs w : List TimerKey) (view : live ks cs ≡ w) (x : TimerKey)
+module _ (ks cs w : List TimerKey) (view : live_keys ks cs ≡ w) (x : TimerKey)
     (mks mcs nks ncs : List TimerKey)
     (after : (q : TimerKey) → is_live nks ncs q ≡ is_live mks mcs q) where
   viewed : (q : TimerKey) → is_live ks cs q ≡ is_in w q
-  viewed q = sym (in-live ks cs q) ∙ ap (λ l. is_in l q) view
+  viewed q = sym (in-live_keys ks cs q) ∙ ap (λ l. is_in l q) view
 
   -- one more key is live
-  pub more-live : ((q : TimerKey) → is_live mks mcs q ≡ (same_key x q || is_live ks cs q))
-      → (q : TimerKey) → is_in (live nks ncs) q ≡ (same_key x q || is_in w q)
-  more-live put q =
-      in-live nks ncs q ∙ (after q ∙ (put q ∙ ap (λ b. same_key x q || b) (viewed q)))
+  pub more-live_keys : ((q : TimerKey) → is_live mks mcs q ≡ (same_key x q || is_live ks cs q))
+      → (q : TimerKey) → is_in (live_keys nks ncs) q ≡ (same_key x q || is_in w q)
+  more-live_keys put q =
+      in-live_keys nks ncs q ∙ (after q ∙ (put q ∙ ap (λ b. same_key x q || b) (viewed q)))
 
   -- one key less is live
-  pub less-live : ((q : TimerKey) → is_live mks mcs q ≡ (not (same_key x q) && is_live ks cs q))
-      → (q : TimerKey) → is_in (live nks ncs) q ≡ (not (same_key x q) && is_in w q)
-  less-live out q =
-      in-live nks ncs q ∙ (after q ∙ (out q ∙ ap (λ b. not (same_key x q) && b) (viewed q)))
+  pub less-live_keys : ((q : TimerKey) → is_live mks mcs q ≡ (not (same_key x q)
+      && is_live ks cs q))
+      → (q : TimerKey) → is_in (live_keys nks ncs) q ≡ (not (same_key x q) && is_in w q)
+  less-live_keys out q =
+      in-live_keys nks ncs q ∙ (after q ∙ (out q ∙ ap (λ b. not (same_key x q) && b) (viewed q)))

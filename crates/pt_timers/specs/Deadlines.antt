@@ -9,8 +9,8 @@ use Rattle.std.specs.List.{list_any, filter}
 use Rattle.pt_types.specs.declared.time.Clock.{Clock}
 use Rattle.pt_types.specs.declared.time.Clock.TheVariants.{Real, Mono}
 use Rattle.pt_types.specs.Operations.{same_clock}
-use Rattle.pt_types.specs.Limits.{second}
-use Rattle.pt_types.specs.Times.{Timespec, deadline_nanos, is_bad_deadline, pair_before}
+use Rattle.pt_types.specs.Limits.{nanoseconds_per_second}
+use Rattle.pt_types.specs.Times.{Timespec, deadline_nanos, is_invalid_deadline, pair_before}
 use Rattle.pt_timers.specs.declared.key.TimerKey.{TimerKey}
 
 -- the deadline that is set at a place: its clock, and its nanoseconds
@@ -63,7 +63,8 @@ abbrev pub IsLeast : List (ℕ × (Clock × ℕ)) → Clock → Option Timespec 
 IsLeast ts k found =
     MatchOption found
     ((q m : ℕ) → deadline_at ts q ≡ Some (k, m) → ⊥)
-    (λ d. (p : ℕ) × (deadline_at ts p ≡ Some (k, deadline_nanos d)) × (is_bad_deadline d ≡ false)
+    (λ d. (p : ℕ) × (deadline_at ts p ≡ Some (k, deadline_nanos d)) × (is_invalid_deadline d
+    ≡ false)
     × ((q m : ℕ) → deadline_at ts q ≡ Some (k, m) → deadline_nanos d ≤ m))
 
 -- the sooner of the two keys, or the second if there is no first
@@ -72,8 +73,8 @@ sooner_of None t = t
 sooner_of (Some b) t = if pair_before (pair_of t) (pair_of b) then t else b
 
 -- a key with these nanoseconds and this place
-abbrev pub key_of : ℕ → ℕ → TimerKey
-key_of n p = record { nanos = n; place = p; client = 0 }
+abbrev pub timer_key : ℕ → ℕ → TimerKey
+timer_key n p = record { nanos = n; place = p; client = 0 }
 
 -- whether two keys have the same deadline and place
 abbrev pub same_key : TimerKey → TimerKey → Bool
@@ -93,24 +94,24 @@ abbrev pub is_in : List TimerKey → TimerKey → Bool
 is_in keys q = list_any (is_at (key_cmp q)) keys
 
 -- it is one of these keys, and none of them is due before it, or none if there are no keys
-abbrev pub IsFirst : List TimerKey → Option TimerKey → Type 0
-IsFirst keys found =
+abbrev pub IsFirstKey : List TimerKey → Option TimerKey → Type 0
+IsFirstKey keys found =
     MatchOption found
     ((q : TimerKey) → is_in keys q ≡ false)
     (λ k. (is_in keys k ≡ true)
     × ((q : TimerKey) → is_in keys q ≡ true → pair_before (pair_of q) (pair_of k) ≡ false))
 
 -- the keys that are not canceled
-abbrev pub live : List TimerKey → List TimerKey → List TimerKey
-live keys canceled = filter (λ k. not (is_in canceled k)) keys
+abbrev pub live_keys : List TimerKey → List TimerKey → List TimerKey
+live_keys keys canceled = filter (λ k. not (is_in canceled k)) keys
 
 -- whether a key is among these and is not canceled
 abbrev pub is_live : List TimerKey → List TimerKey → TimerKey → Bool
 is_live keys canceled q = not (is_in canceled q) && is_in keys q
 
 -- the first of the keys is not canceled
-abbrev pub IsApart : List TimerKey → List TimerKey → Type 0
-IsApart keys canceled = (t : TimerKey) → IsFirst keys (Some t) → is_in canceled t ≡ false
+abbrev pub HasLiveFirst : List TimerKey → List TimerKey → Type 0
+HasLiveFirst keys canceled = (t : TimerKey) → IsFirstKey keys (Some t) → is_in canceled t ≡ false
 
 -- no key has a place after this one
 abbrev pub ComeBefore : List TimerKey → ℕ → Type 0
@@ -121,18 +122,18 @@ ComeBefore keys last = (q : TimerKey) → is_in keys q ≡ true → q.place ≤ 
 pub record IsOrder (keys canceled : List TimerKey) (last : ℕ) : Type 0 where
   pub heap : IsHeap key_cmp keys
   pub canceled_heap : IsHeap key_cmp canceled
-  pub apart : IsApart keys canceled
+  pub live_first : HasLiveFirst keys canceled
   pub before : ComeBefore canceled last
 
 -- the limit below which the nanoseconds of a deadline that is a time are  [profile]
-abbrev pub most_nanos : ℕ
-most_nanos = 10000000000 * second
+abbrev pub max_nanos : ℕ
+max_nanos = 10000000000 * nanoseconds_per_second
 
 -- the deadlines in the orders are those that are set at their places, and each is a time
 -- [XSH pthread_mutex_timedlock, EINVAL]
 pub record AreTimers (places : List (ℕ × (Clock × ℕ)))
     (is_due : Clock → TimerKey → Bool) : Type 0 where
   pub placed : (k : Clock) (q : TimerKey) → is_due k q ≡ true
-      → (deadline_at places q.place ≡ Some (k, q.nanos)) × (q.nanos < most_nanos)
+      → (deadline_at places q.place ≡ Some (k, q.nanos)) × (q.nanos < max_nanos)
   pub ordered : (p : ℕ) (k : Clock) (n : ℕ) → deadline_at places p ≡ Some (k, n)
-      → is_due k (key_of n p) ≡ true
+      → is_due k (timer_key n p) ≡ true

@@ -21,5 +21,5 @@ by_places k [] = []
 by_places k (q ∷ qs) = (q.place, (k, q.nanos)) ∷ by_places k qs
 
 -- the deadlines of both clocks, by their places
-abbrev pub listed : {A : Type 0} → Orders A → List (ℕ × (Clock × ℕ))
-listed o = by_places Real o.real ++ by_places Mono o.mono
+abbrev pub timer_list : {A : Type 0} → Orders A → List (ℕ × (Clock × ℕ))
+timer_list o = by_places Real o.real ++ by_places Mono o.mono

@@ -5,7 +5,7 @@ ghost use Rattle.std.specs.Prelude.{OnOk, OnErr, IfErr, IsOk};
 ghost use Rattle.std.specs.BinaryHeap.{IsHeap, heap_items, heap_len, heap_capacity};
 ghost use Rattle.pt_types.specs.declared.outcome.Refusal.{Refusal};
 ghost use Rattle.pt_timers.specs.declared.key.TimerKey.{TimerKey};
-ghost use Rattle.pt_timers.specs.Deadlines.{is_found, is_in, key_cmp, same_key, IsFirst};
+ghost use Rattle.pt_timers.specs.Deadlines.{is_found, is_in, key_cmp, same_key, IsFirstKey};
 
 use crate::key::TimerKey;
 use pt_types::Refusal;
@@ -16,7 +16,7 @@ use std::collections::BinaryHeap;
 #[inline(always)]
 pub(crate) fn first_of<A: Allocator + Copy>(keys: &BinaryHeap<TimerKey, A>) -> Option<TimerKey>
     requires { IsHeap key_cmp (heap_items keys.now) }
-    ensures { IsFirst (heap_items keys.now) result }
+    ensures { IsFirstKey (heap_items keys.now) result }
 {
     match keys.peek() {
         Some(first) => Some(*first),
@@ -40,7 +40,7 @@ pub(crate) fn reserve<A: Allocator + Copy>(
     additional: usize,
 ) -> Result<(), Refusal>
     ensures items { heap_items keys.new ≡ heap_items keys.old }
-    ensures refusal { IfErr result (λ refusal. refusal ≡ Refusal.Enomem) }
+    ensures err { IfErr result (λ refusal. refusal ≡ Refusal.Enomem) }
 {
     match keys.reserve(additional) {
         Ok(()) => Ok(()),
@@ -58,8 +58,8 @@ pub(crate) fn push<A: Allocator + Copy>(
     ensures ok { OnOk result ((q : TimerKey) → is_in (heap_items keys.new) q
         ≡ (same_key key.now q || is_in (heap_items keys.old) q)) }
     ensures len { OnOk result (heap_len keys.new ≡ heap_len keys.old + 1) }
-    ensures err { OnErr result (heap_items keys.new ≡ heap_items keys.old) }
-    ensures refusal { IfErr result (λ refusal. refusal ≡ Refusal.Enomem) }
+    ensures unchanged { OnErr result (heap_items keys.new ≡ heap_items keys.old) }
+    ensures err { IfErr result (λ refusal. refusal ≡ Refusal.Enomem) }
     ensures capacity { heap_capacity keys.old ≤ heap_capacity keys.new }
     ensures succeeds { heap_len keys.old < heap_capacity keys.old → IsOk result }
 {
@@ -73,7 +73,7 @@ pub(crate) fn push<A: Allocator + Copy>(
 #[inline(always)]
 pub(crate) fn pop<A: Allocator + Copy>(keys: &mut BinaryHeap<TimerKey, A>, first: &TimerKey)
     requires heap { IsHeap key_cmp (heap_items keys.old) }
-    requires first { IsFirst (heap_items keys.old) (Some first.now) }
+    requires first { IsFirstKey (heap_items keys.old) (Some first.now) }
     ensures heap { IsHeap key_cmp (heap_items keys.new) }
     ensures left { (q : TimerKey) → is_in (heap_items keys.old) q
         ≡ (same_key first.now q || is_in (heap_items keys.new) q) }
@@ -95,7 +95,7 @@ pub(crate) fn drop_key<A: Allocator + Copy>(keys: &mut BinaryHeap<TimerKey, A>, 
 /// Removes the key that is due first, however often it occurs.
 pub(crate) fn pop_all<A: Allocator + Copy>(keys: &mut BinaryHeap<TimerKey, A>, first: &TimerKey)
     requires heap { IsHeap key_cmp (heap_items keys.old) }
-    requires first { IsFirst (heap_items keys.old) (Some first.now) }
+    requires first { IsFirstKey (heap_items keys.old) (Some first.now) }
     ensures heap { IsHeap key_cmp (heap_items keys.new) }
     ensures left { (q : TimerKey) → is_in (heap_items keys.new) q
         ≡ (not (same_key first.now q) && is_in (heap_items keys.old) q) }

@@ -3,7 +3,7 @@ ghost use Rattle.std.specs.BinaryHeap.{IsHeap, heap_items};
 ghost use Rattle.pt_types.specs.declared.outcome.Refusal.{Refusal};
 ghost use Rattle.pt_timers.specs.declared.key.TimerKey.{TimerKey};
 ghost use Rattle.pt_timers.specs.Deadlines.{is_in, is_live, key_cmp, same_key};
-ghost use Rattle.pt_timers.specs.Deadlines.{ComeBefore, IsApart, IsFirst};
+ghost use Rattle.pt_timers.specs.Deadlines.{ComeBefore, HasLiveFirst, IsFirstKey};
 
 use crate::key::TimerKey;
 use crate::keys::{drop_key, first_of, is_key, pop_all, push, reserve};
@@ -27,11 +27,11 @@ impl<A: Allocator + Copy> Model for Order<A> {
     ghost use Rattle.std.specs.Prelude.{List};
     ghost use Rattle.std.specs.BinaryHeap.{heap_items};
     ghost use Rattle.pt_timers.specs.declared.key.TimerKey.{TimerKey};
-    ghost use Rattle.pt_timers.specs.Deadlines.{live, IsOrder};
+    ghost use Rattle.pt_timers.specs.Deadlines.{live_keys, IsOrder};
 
     ghost Value = { List TimerKey };
 
-    ghost view = { λ o. live (heap_items o.keys) (heap_items o.canceled) };
+    ghost view = { λ o. live_keys (heap_items o.keys) (heap_items o.canceled) };
 
     ghost invariant = { λ o. IsOrder (heap_items o.keys) (heap_items o.canceled) o.last };
 }
@@ -52,7 +52,7 @@ impl<A: Allocator + Copy> Order<A> {
     /// Returns the deadline that is due first.
     #[inline(always)]
     pub(crate) fn first(&self) -> Option<TimerKey>
-        ensures { IsFirst self.now result }
+        ensures { IsFirstKey self.now result }
     {
         first_of(&self.keys)
     }
@@ -61,8 +61,8 @@ impl<A: Allocator + Copy> Order<A> {
     pub(crate) fn insert(&mut self, key: TimerKey) -> Result<(), Refusal>
         ensures ok { OnOk result ((q : TimerKey)
             → is_in self.new q ≡ (same_key key q || is_in self.old q)) }
-        ensures err { OnErr result (self.new ≡ self.old) }
-        ensures refusal { IfErr result (λ refusal. refusal ≡ Refusal.Enomem) }
+        ensures unchanged { OnErr result (self.new ≡ self.old) }
+        ensures err { IfErr result (λ refusal. refusal ≡ Refusal.Enomem) }
     {
         insert(&mut self.keys, &mut self.canceled, self.last, &key)?;
         compact_if_sparse(&mut self.keys, &mut self.canceled, self.alloc);
@@ -92,7 +92,7 @@ fn insert<A: Allocator + Copy>(
 ) -> Result<(), Refusal>
     requires heap { IsHeap key_cmp (heap_items keys.old) }
     requires canceled { IsHeap key_cmp (heap_items canceled.old) }
-    requires apart { IsApart (heap_items keys.old) (heap_items canceled.old) }
+    requires disjoint { HasLiveFirst (heap_items keys.old) (heap_items canceled.old) }
     requires before { ComeBefore (heap_items canceled.old) last }
     ensures heap { IsHeap key_cmp (heap_items keys.new) }
     ensures canceled { IsHeap key_cmp (heap_items canceled.new) }
@@ -101,10 +101,10 @@ fn insert<A: Allocator + Copy>(
     ensures ok { OnOk result ((q : TimerKey)
         → is_live (heap_items keys.new) (heap_items canceled.new) q
         ≡ (same_key key.now q || is_live (heap_items keys.old) (heap_items canceled.old) q)) }
-    ensures apart { OnOk result (IsApart (heap_items keys.new) (heap_items canceled.new)) }
-    ensures err { OnErr result (heap_items keys.new ≡ heap_items keys.old) }
-    ensures same { OnErr result (heap_items canceled.new ≡ heap_items canceled.old) }
-    ensures refusal { IfErr result (λ refusal. refusal ≡ Refusal.Enomem) }
+    ensures disjoint { OnOk result (HasLiveFirst (heap_items keys.new) (heap_items canceled.new)) }
+    ensures unchanged { OnErr result (heap_items keys.new ≡ heap_items keys.old) }
+    ensures unchanged_canceled { OnErr result (heap_items canceled.new ≡ heap_items canceled.old) }
+    ensures err { IfErr result (λ refusal. refusal ≡ Refusal.Enomem) }
 {
     reserve(canceled, keys.len())?;
     push(keys, key)?;

@@ -44,9 +44,9 @@ impl<A: Allocator + Copy> Orders<A> {
         ensures ok { OnOk result ((k : Clock) (q : TimerKey)
             → is_due_at self.new k q
             ≡ ((same_clock clock k && same_key key q) || is_due_at self.old k q)) }
-        ensures err { OnErr result ((k : Clock)
+        ensures unchanged { OnErr result ((k : Clock)
             → order_of self.new k ≡ order_of self.old k) }
-        ensures refusal { IfErr result (λ refusal. refusal ≡ Refusal.Enomem) }
+        ensures err { IfErr result (λ refusal. refusal ≡ Refusal.Enomem) }
     {
         match clock {
             Clock::Real => self.real.insert(key),

@@ -1,6 +1,6 @@
 ghost use Rattle.std.specs.Prelude.{◌≡◌, ◌==◌, ◌<◌, false};
-ghost use Rattle.pt_types.specs.Times.{deadline_nanos, is_bad_deadline};
-ghost use Rattle.pt_timers.specs.Deadlines.{most_nanos};
+ghost use Rattle.pt_types.specs.Times.{deadline_nanos, is_invalid_deadline};
+ghost use Rattle.pt_timers.specs.Deadlines.{max_nanos};
 
 use crate::key::{TimerKey, sooner};
 use crate::orders::Orders;
@@ -13,18 +13,18 @@ const NANOSECONDS_IN_SECOND: u64 = 1_000_000_000;
 
 // Returns all nanoseconds of a deadline that is a time.
 fn nanos_of(deadline: Deadline) -> u64
-    requires { is_bad_deadline deadline ≡ false }
+    requires { is_invalid_deadline deadline ≡ false }
     ensures nanos { result ≡ deadline_nanos deadline }
-    ensures limit { result < most_nanos }
+    ensures limit { result < max_nanos }
 {
     deadline.sec() * NANOSECONDS_IN_SECOND + deadline.nsec()
 }
 
 // Returns the deadline of these nanoseconds, as a time.
 fn deadline_of(nanos: u64) -> Deadline
-    requires { nanos < most_nanos }
+    requires { nanos < max_nanos }
     ensures nanos { deadline_nanos result ≡ nanos }
-    ensures time { is_bad_deadline result ≡ false }
+    ensures time { is_invalid_deadline result ≡ false }
 {
     let sec = nanos / NANOSECONDS_IN_SECOND;
     Deadline::new(sec, nanos % NANOSECONDS_IN_SECOND).unwrap()
@@ -40,13 +40,13 @@ impl<A: Allocator + Copy> Model for Timers<A> {
     ghost use Rattle.std.specs.Prelude.{List, ℕ};
     ghost use Rattle.pt_types.specs.declared.time.Clock.{Clock};
     ghost use Rattle.pt_timers.specs.Deadlines.{AreTimers};
-    ghost use Rattle.pt_timers.specs.Orders.{is_due_at, listed};
+    ghost use Rattle.pt_timers.specs.Orders.{is_due_at, timer_list};
 
     ghost Value = { List (ℕ × (Clock × ℕ)) };
 
-    ghost view = { λ t. listed t.orders };
+    ghost view = { λ t. timer_list t.orders };
 
-    ghost invariant = { λ t. AreTimers (listed t.orders) (is_due_at t.orders) };
+    ghost invariant = { λ t. AreTimers (timer_list t.orders) (is_due_at t.orders) };
 }
 
 // Not derived, so that code that drops timers need not prove anything about their parts.
@@ -80,7 +80,7 @@ impl<A: Allocator + Copy> Timers<A> {
         clock: Clock,
         deadline: Deadline,
     ) -> Result<(), Refusal>
-        requires good { is_bad_deadline deadline ≡ false }
+        requires good { is_invalid_deadline deadline ≡ false }
         requires unset { deadline_at self.old place ≡ None }
         ensures ok { OnOk result ((p : ℕ)
             → deadline_at self.new p
@@ -88,8 +88,8 @@ impl<A: Allocator + Copy> Timers<A> {
             else deadline_at self.old p)) }
 
         // A refusal changes nothing.
-        ensures err { OnErr result (self.new ≡ self.old) }
-        ensures refusal { IfErr result (λ refusal. refusal ≡ Refusal.Enomem) }
+        ensures unchanged { OnErr result (self.new ≡ self.old) }
+        ensures err { IfErr result (λ refusal. refusal ≡ Refusal.Enomem) }
     {
         let key = TimerKey {
             nanos: nanos_of(deadline),

@@ -4,7 +4,7 @@ use Rattle.std.specs.Prelude.{Option}
 use Rattle.std.specs.Prelude.{None, Some}
 use Rattle.std.specs.List.{list_all}
 use Rattle.std.specs.Str.{bytes_eq}
-use Rattle.pt_grammar.specs.Clients.{before_space, behind_space}
+use Rattle.pt_grammar.specs.Clients.{before_space, after_space}
 
 -- an answer: the client, the number of its line, and the word, as they are written
 pub record AnswerText : Type 0 where
@@ -13,20 +13,20 @@ pub record AnswerText : Type 0 where
   pub word : List ℕ
 
 -- the bytes that are left, if any are
-abbrev pub left : Option (List ℕ) → List ℕ
-left None = []
-left (Some rest) = rest
+abbrev pub rest_or_empty : Option (List ℕ) → List ℕ
+rest_or_empty None = []
+rest_or_empty (Some rest) = rest
 
 -- the bytes after the first space, or none if there is no space
-abbrev pub past_space : List ℕ → List ℕ
-past_space text = left (behind_space text)
+abbrev pub text_after_space : List ℕ → List ℕ
+text_after_space text = rest_or_empty (after_space text)
 
 -- the parts of a text, which single spaces separate
 abbrev pub answer_of : List ℕ → AnswerText
 answer_of text = record {
   client = before_space text;
-  number = before_space (past_space text);
-  word = past_space (past_space text);
+  number = before_space (text_after_space text);
+  word = text_after_space (text_after_space text);
 }
 
 abbrev pub is_no_space : ℕ → Bool

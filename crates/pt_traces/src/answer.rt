@@ -3,7 +3,7 @@ ghost use Rattle.std.specs.List.{list_all};
 ghost use Rattle.pt_grammar.specs.Clients.{before_space};
 ghost use Rattle.pt_traces.specs.Answers.{answer_of, agrees_with, are_to_one_line, is_answer};
 ghost use Rattle.pt_traces.specs.Answers.{is_digit, is_number};
-ghost use Rattle.pt_traces.specs.Answers.{is_word, past_space, is_no_space};
+ghost use Rattle.pt_traces.specs.Answers.{is_word, text_after_space, is_no_space};
 
 use memchr::memchr;
 use std::marker::Model;
@@ -31,7 +31,7 @@ impl<'a> Model for Answer<'a> {
 // Returns the bytes before the first space, and those after it.
 fn split_at_space(text: &[u8]) -> (&[u8], &[u8])
     ensures before { result.0.now ≡ before_space text.now }
-    ensures past { result.1.now ≡ past_space text.now }
+    ensures rest { result.1.now ≡ text_after_space text.now }
 {
     match memchr(b' ', text) {
         Some(end) => (&text[..end], &text[end + 1..]),

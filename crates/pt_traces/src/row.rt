@@ -2,17 +2,17 @@ ghost use Rattle.std.specs.Prelude.{◌≡◌};
 ghost use Rattle.std.specs.Option.{option_copied};
 ghost use Rattle.pt_grammar.specs.Cuts.{cut_of};
 ghost use Rattle.pt_traces.specs.Rows.{after_mark, is_remark, line_of, text_in};
-ghost use Rattle.pt_traces.specs.Rows.{line_in as line_in_row};
+ghost use Rattle.pt_traces.specs.Rows.{line_in};
 
 use arrayvec::ArrayVec;
 use pt_grammar::Cut;
-use pt_types::MOST_IN_LINE;
+use pt_types::MAX_LINE_LENGTH;
 
 // Returns what a cutter gives of a line with this text.
 fn cut_of(text: &[u8]) -> Cut
     ensures { result ≡ cut_of text.now }
 {
-    if text.len() > MOST_IN_LINE {
+    if text.len() > MAX_LINE_LENGTH {
         return Cut::Long;
     }
     Cut::Line(ArrayVec::try_from(text).unwrap())
@@ -57,7 +57,7 @@ fn line_of(row: &[u8]) -> Cut
 
 /// Returns the line of a script in a row of a trace, as a cutter gives it, if the row has one.
 pub fn line_in(row: &[u8]) -> Option<Cut>
-    ensures { result ≡ line_in_row row.now }
+    ensures { result ≡ line_in row.now }
 {
     if is_remark(row) || answer_in(row).is_some() {
         return None;

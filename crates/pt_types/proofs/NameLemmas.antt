@@ -10,7 +10,7 @@ use Rattle.std.proofs.lemmas.List.{take-append-le, take-append-drop, take_all}
 use Rattle.std.proofs.lemmas.List.{take-take, take_rest, take_at, drop_all}
 use Rattle.std.proofs.Math.Seq.{drop-cons}
 use Rattle.pt_types.specs.Names.{is_name_byte}
-use Rattle.pt_types.specs.declared.name.TheConstants.{MAY_STAND}
+use Rattle.pt_types.specs.declared.name.TheConstants.{ALLOWED_BYTES}
 
 and_parts : (a b : Bool) → (a && b) ≡ true → (a ≡ true) × (b ≡ true)
 and_parts true b h = (refl, h)
@@ -32,27 +32,28 @@ same_are false false h = refl
 -- whether the table is right for each byte below n
 abbrev right_below : ℕ → Bool
 right_below zero = true
-right_below (suc n) = same (get_or MAY_STAND n false) (is_name_byte n) && right_below n
+right_below (suc n) = same (get_or ALLOWED_BYTES n false) (is_name_byte n) && right_below n
 
 right_at :
-    (n byte : ℕ) → right_below n ≡ true → byte < n → get_or MAY_STAND byte false ≡ is_name_byte byte
+    (n byte : ℕ) → right_below n ≡ true → byte < n → get_or ALLOWED_BYTES byte false
+    ≡ is_name_byte byte
 right_at zero byte h lt = absurd (omega arith)
 right_at (suc n) byte h lt =
     let parts =
-    and_parts (same (get_or MAY_STAND n false) (is_name_byte n)) (right_below n) h in
+    and_parts (same (get_or ALLOWED_BYTES n false) (is_name_byte n)) (right_below n) h in
     by (cases_lt byte n) parts.0 (right_at n byte parts.1)
   where
     by :
-        (byte < n) ⊎ (n ≤ byte) → same (get_or MAY_STAND n false) (is_name_byte n) ≡ true
-        → (byte < n → get_or MAY_STAND byte false ≡ is_name_byte byte)
-        → get_or MAY_STAND byte false ≡ is_name_byte byte
+        (byte < n) ⊎ (n ≤ byte) → same (get_or ALLOWED_BYTES n false) (is_name_byte n) ≡ true
+        → (byte < n → get_or ALLOWED_BYTES byte false ≡ is_name_byte byte)
+        → get_or ALLOWED_BYTES byte false ≡ is_name_byte byte
     by (inl less) here below = below less
     by (inr more) here below =
         let at : n ≡ byte = omega arith in
-        subst (λ m. get_or MAY_STAND m false ≡ is_name_byte m) at
-        (same_are (get_or MAY_STAND n false) (is_name_byte n) here)
+        subst (λ m. get_or ALLOWED_BYTES m false ≡ is_name_byte m) at
+        (same_are (get_or ALLOWED_BYTES n false) (is_name_byte n) here)
 
-pub may_stand_at : (byte : ℕ) → byte < 2 ^ 8 → get_or MAY_STAND byte false ≡ is_name_byte byte
+pub may_stand_at : (byte : ℕ) → byte < 2 ^ 8 → get_or ALLOWED_BYTES byte false ≡ is_name_byte byte
 may_stand_at byte fits = right_at 256 byte refl fits
 
 -- a number of bytes from an index on, one by one, and what follows them

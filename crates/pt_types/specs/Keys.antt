@@ -11,19 +11,19 @@ four_digits bytes =
     (pairs * 6553601) % 2 ^ 32 / 2 ^ 16
 
 -- fewer than four bytes read as digits
-abbrev pub few_digits : List ℕ → ℕ
-few_digits [] = 0
-few_digits (a ∷ []) = a
-few_digits (a ∷ b ∷ []) = a * 10 + b
-few_digits (a ∷ b ∷ c ∷ rest) = a * 100 + b * 10 + c
+abbrev pub short_digits : List ℕ → ℕ
+short_digits [] = 0
+short_digits (a ∷ []) = a
+short_digits (a ∷ b ∷ []) = a * 10 + b
+short_digits (a ∷ b ∷ c ∷ rest) = a * 100 + b * 10 + c
 
 -- the last bytes of a name, up to four, read as digits
 abbrev pub end_digits : List ℕ → ℕ
 end_digits bytes =
     if nat_lt (length bytes) 4
-    then few_digits bytes
+    then short_digits bytes
     else four_digits (drop (length bytes - 4) bytes)
 
 -- the key of a name: its last bytes read as digits, plus a distance for each byte of its length
-abbrev pub key : List ℕ → ℕ
-key bytes = (end_digits bytes + (10615 * length bytes) % 2 ^ 64) % 2 ^ 64
+abbrev pub name_key : List ℕ → ℕ
+name_key bytes = (end_digits bytes + (10615 * length bytes) % 2 ^ 64) % 2 ^ 64

@@ -48,20 +48,20 @@ class_needed WriteLock = RwlockClass
 
 -- what a call does, with the names of its objects  [XSH, the call's page]
 pub data Operation : Type 0 where
-  Makes : List ℕ → ObjectKind → Operation
+  Inits : List ℕ → ObjectKind → Operation
   Ends : List ℕ → ObjectClass → Operation
   Acquires : List ℕ → LockKind → How → Operation
   Unlocks : List ℕ → Operation
   Restores : List ℕ → Operation
   Rwunlocks : List ℕ → Operation
-  Awaits : List ℕ → List ℕ → Option Timespec → Operation
+  CondWaits : List ℕ → List ℕ → Option Timespec → Operation
   Signals : List ℕ → Operation
   Broadcasts : List ℕ → Operation
-  Arrives : List ℕ → Operation
+  BarrierWaits : List ℕ → Operation
 
 -- what each call word does, as the page of its function says  [XSH, the call's page]
 abbrev pub operation : Call → Operation
-operation (MutexInit n kind robust) = Makes n (Mutex kind robust)
+operation (MutexInit n kind robust) = Inits n (Mutex kind robust)
 operation (Lock n) = Acquires n MutexLock Plain
 operation (Trylock n) = Acquires n MutexLock Try
 operation (Timedlock n d) = Acquires n MutexLock (Timed d)
@@ -69,7 +69,7 @@ operation (Clocklock n k d) = Acquires n MutexLock (Timed d)
 operation (Unlock n) = Unlocks n
 operation (Consistent n) = Restores n
 operation (MutexDestroy n) = Ends n MutexClass
-operation (RwlockInit n) = Makes n Rwlock
+operation (RwlockInit n) = Inits n Rwlock
 operation (Rdlock n) = Acquires n ReadLock Plain
 operation (Tryrdlock n) = Acquires n ReadLock Try
 operation (Timedrdlock n d) = Acquires n ReadLock (Timed d)
@@ -80,15 +80,15 @@ operation (Timedwrlock n d) = Acquires n WriteLock (Timed d)
 operation (Clockwrlock n k d) = Acquires n WriteLock (Timed d)
 operation (Rwunlock n) = Rwunlocks n
 operation (RwlockDestroy n) = Ends n RwlockClass
-operation (CondInit n) = Makes n Cond
+operation (CondInit n) = Inits n Cond
 operation (CondDestroy n) = Ends n CondClass
-operation (Wait n m) = Awaits n m None
-operation (Timedwait n m d) = Awaits n m (Some d)
-operation (Clockwait n m k d) = Awaits n m (Some d)
+operation (Wait n m) = CondWaits n m None
+operation (Timedwait n m d) = CondWaits n m (Some d)
+operation (Clockwait n m k d) = CondWaits n m (Some d)
 operation (Signal n) = Signals n
 operation (Broadcast n) = Broadcasts n
-operation (BarrierInit n count) = Makes n (Barrier count)
-operation (Bwait n) = Arrives n
+operation (BarrierInit n count) = Inits n (Barrier count)
+operation (Bwait n) = BarrierWaits n
 operation (BarrierDestroy n) = Ends n BarrierClass
 
 -- the clock of a call's deadline; a call that names none uses the real one, which is profile for

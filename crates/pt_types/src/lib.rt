@@ -21,8 +21,8 @@ pub mod views;
 pub use call::{Call, How, MutexKind, ObjectKind};
 pub use keys::key_of;
 pub use limits::{
-    MOST_AT_BARRIER, MOST_CLIENTS, MOST_ENTRIES, MOST_IN_LINE, MOST_LOCKS, MOST_OBJECTS,
-    MOST_PRIORITY, MOST_READS,
+    MAX_BARRIER_COUNT, MAX_CLIENTS, MAX_ENTRIES, MAX_LINE_LENGTH, MAX_LOCKS, MAX_OBJECTS,
+    MAX_PRIORITY, MAX_READ_LOCKS,
 };
 pub use name::Name;
 pub use named_verb::NamedVerb;

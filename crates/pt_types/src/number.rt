@@ -1,4 +1,4 @@
-use crate::limits::MOST_PRIORITY;
+use crate::limits::MAX_PRIORITY;
 use std::marker::Model;
 
 /// The number of a client: the place of its Join.  [profile]
@@ -37,28 +37,28 @@ pub struct Priority {
 
 impl Model for Priority {
     ghost use Rattle.std.specs.Prelude.{ℕ, ◌≤◌};
-    ghost use Rattle.pt_types.specs.Limits.{most_priority};
+    ghost use Rattle.pt_types.specs.Limits.{max_priority};
 
     ghost Value = { ℕ };
 
     ghost view = { λ p. p.level };
 
-    ghost invariant = { λ p. (1 ≤ p.level) × (p.level ≤ most_priority) };
+    ghost invariant = { λ p. (1 ≤ p.level) × (p.level ≤ max_priority) };
 
     ghost inverse = { λ n. record { level = n } };
 }
 
 impl Priority {
     ghost use Rattle.std.specs.Prelude.{◌≡◌, ◌≤◌, ◌↔◌, IsSome, IfSome};
-    ghost use Rattle.pt_types.specs.Limits.{most_priority};
+    ghost use Rattle.pt_types.specs.Limits.{max_priority};
 
     /// Returns the priority of this level, or None if it is below 1 or above the highest.
     /// [profile]
     pub fn new(level: u64) -> Option<Priority>
-        ensures valid { IsSome result ↔ ((1 ≤ level) × (level ≤ most_priority)) }
+        ensures valid { IsSome result ↔ ((1 ≤ level) × (level ≤ max_priority)) }
         ensures value { IfSome result (λ p. p ≡ level) }
     {
-        if level < 1 || level > MOST_PRIORITY as u64 {
+        if level < 1 || level > MAX_PRIORITY as u64 {
             return None;
         }
         Some(Priority { level: level as u8 })
@@ -68,7 +68,7 @@ impl Priority {
     pub fn level(self) -> u8
         ensures value { result ≡ self }
         ensures least { 1 ≤ result }
-        ensures greatest { result ≤ most_priority }
+        ensures greatest { result ≤ max_priority }
     {
         self.level
     }

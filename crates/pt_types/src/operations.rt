@@ -5,7 +5,7 @@ ghost use Rattle.pt_types.specs.Operations.{operation as operation_meant, clock_
 ghost use Rattle.pt_types.specs.Operations.{same_class, class_of as class_meant};
 ghost use Rattle.pt_types.specs.Operations.{class_needed as class_meant_by};
 ghost use Rattle.pt_types.specs.Operations.{deadline_of as deadline_meant};
-ghost use Rattle.pt_types.specs.Shown.{shown_operation};
+ghost use Rattle.pt_types.specs.OperationViews.{operation_view};
 
 use crate::{Call, Clock, Deadline, How, Name, ObjectKind};
 
@@ -30,25 +30,25 @@ pub enum LockKind {
 /// What a call does, with the names of its objects.  [XSH, the call's page]
 #[derive(Drop)]
 pub enum Operation<'a> {
-    Makes(&'a Name, ObjectKind),
+    Inits(&'a Name, ObjectKind),
     Ends(&'a Name, ObjectClass),
     Acquires(&'a Name, LockKind, How),
     Unlocks(&'a Name),
     Restores(&'a Name),
     Rwunlocks(&'a Name),
-    Awaits(&'a Name, &'a Name, Option<Deadline>),
+    CondWaits(&'a Name, &'a Name, Option<Deadline>),
     Signals(&'a Name),
     Broadcasts(&'a Name),
-    Arrives(&'a Name),
+    BarrierWaits(&'a Name),
 }
 
 /// Returns what a call does, with the names of its objects.  [XSH, the call's page]
 #[inline(always)]
 pub fn operation_of(call: &Call) -> Operation<'_>
-    ensures { shown_operation result ≡ operation_meant call.now }
+    ensures { operation_view result ≡ operation_meant call.now }
 {
     match call {
-        Call::MutexInit(n, kind, robust) => Operation::Makes(n, ObjectKind::Mutex(*kind, *robust)),
+        Call::MutexInit(n, kind, robust) => Operation::Inits(n, ObjectKind::Mutex(*kind, *robust)),
         Call::Lock(n) => Operation::Acquires(n, LockKind::MutexLock, How::Plain),
         Call::Trylock(n) => Operation::Acquires(n, LockKind::MutexLock, How::Try),
         Call::Timedlock(n, d) => Operation::Acquires(n, LockKind::MutexLock, How::Timed(*d)),
@@ -56,7 +56,7 @@ pub fn operation_of(call: &Call) -> Operation<'_>
         Call::Unlock(n) => Operation::Unlocks(n),
         Call::Consistent(n) => Operation::Restores(n),
         Call::MutexDestroy(n) => Operation::Ends(n, ObjectClass::Mutex),
-        Call::RwlockInit(n) => Operation::Makes(n, ObjectKind::Rwlock),
+        Call::RwlockInit(n) => Operation::Inits(n, ObjectKind::Rwlock),
         Call::Rdlock(n) => Operation::Acquires(n, LockKind::ReadLock, How::Plain),
         Call::Tryrdlock(n) => Operation::Acquires(n, LockKind::ReadLock, How::Try),
         Call::Timedrdlock(n, d) => Operation::Acquires(n, LockKind::ReadLock, How::Timed(*d)),
@@ -67,15 +67,15 @@ pub fn operation_of(call: &Call) -> Operation<'_>
         Call::Clockwrlock(n, _, d) => Operation::Acquires(n, LockKind::WriteLock, How::Timed(*d)),
         Call::Rwunlock(n) => Operation::Rwunlocks(n),
         Call::RwlockDestroy(n) => Operation::Ends(n, ObjectClass::Rwlock),
-        Call::CondInit(n) => Operation::Makes(n, ObjectKind::Cond),
+        Call::CondInit(n) => Operation::Inits(n, ObjectKind::Cond),
         Call::CondDestroy(n) => Operation::Ends(n, ObjectClass::Cond),
-        Call::Wait(n, m) => Operation::Awaits(n, m, None),
-        Call::Timedwait(n, m, d) => Operation::Awaits(n, m, Some(*d)),
-        Call::Clockwait(n, m, _, d) => Operation::Awaits(n, m, Some(*d)),
+        Call::Wait(n, m) => Operation::CondWaits(n, m, None),
+        Call::Timedwait(n, m, d) => Operation::CondWaits(n, m, Some(*d)),
+        Call::Clockwait(n, m, _, d) => Operation::CondWaits(n, m, Some(*d)),
         Call::Signal(n) => Operation::Signals(n),
         Call::Broadcast(n) => Operation::Broadcasts(n),
-        Call::BarrierInit(n, count) => Operation::Makes(n, ObjectKind::Barrier(*count)),
-        Call::Bwait(n) => Operation::Arrives(n),
+        Call::BarrierInit(n, count) => Operation::Inits(n, ObjectKind::Barrier(*count)),
+        Call::Bwait(n) => Operation::BarrierWaits(n),
         Call::BarrierDestroy(n) => Operation::Ends(n, ObjectClass::Barrier),
     }
 }

@@ -5,26 +5,26 @@ use Rattle.std.proofs.Common.{arith, eq-eqb}
 use Rattle.std.proofs.lemmas.Bool.Decides.{nat_tests}
 use Rattle.std.proofs.lemmas.Bool.{false≢true, and_from, and_parts}
 use Rattle.pt_waitq.specs.declared.waiter.Waiter.{Waiter}
-use Rattle.pt_waitq.specs.Queues.{In, stands_in, of_client, without}
-use Rattle.pt_waitq.specs.Waits.{Waits, is_listed, has_waiter, queue_of, latest, waiting_of}
-use Rattle.pt_waitq.specs.Waits.{queue_in, IsOnce, AllStand}
+use Rattle.pt_waitq.specs.Queues.{In, is_queued_in, of_client, other_waiters}
+use Rattle.pt_waitq.specs.Waits.{Waits, is_listed, has_waiter, queue_of, latest_waiters, waiting_of}
+use Rattle.pt_waitq.specs.Waits.{queue_in, IsOnce, AllQueued}
 use Rattle.pt_waitq.specs.ListLemmas.{any-in, any-out, any-append, any-filter, filter-all}
 use Rattle.pt_waitq.specs.ListLemmas.{filter-none}
 use Rattle.pt_waitq.specs.QueueLemmas.{queue_of-filter, any-queue_of}
 
 -- a client that waits in a queue has an entry there
-pub stands-entry : (c q : ℕ) (es : List (ℕ × Waiter)) → stands_in c (queue_of q es) ≡ true
+pub queued-entry : (c q : ℕ) (es : List (ℕ × Waiter)) → is_queued_in c (queue_of q es) ≡ true
     → (e : ℕ × Waiter) × In e es × (e.0 ≡ q) × (e.1.client ≡ c)
-stands-entry c q es s =
+queued-entry c q es s =
     let test = λ (w : Waiter). w.client == c in
     let there = sym (any-queue_of test q es) ∙ s in
     let r = any-out (λ (e : ℕ × Waiter). (e.0 == q) && test e.1) es there in
     let both = and_parts (r.0.0 == q) (test r.0.1) r.2 in
     (r.0, r.1, grind (arith, nat_tests, both.0), grind (arith, nat_tests, both.1))
 
-pub entry-stands : (e : ℕ × Waiter) (es : List (ℕ × Waiter)) → In e es
-    → stands_in e.1.client (queue_of e.0 es) ≡ true
-entry-stands e es i =
+pub entry-queued : (e : ℕ × Waiter) (es : List (ℕ × Waiter)) → In e es
+    → is_queued_in e.1.client (queue_of e.0 es) ≡ true
+entry-queued e es i =
     let test = λ (w : Waiter). w.client == e.1.client in
     any-queue_of test e.0 es
     ∙ any-in (λ (d : ℕ × Waiter). (d.0 == e.0) && test d.1) es e i
@@ -36,20 +36,20 @@ false_unless false f = refl
 
 -- a client that has no entry waits nowhere, and the other way round
 pub nowhere : (c q : ℕ) (es : List (ℕ × Waiter)) → has_waiter c es ≡ false
-    → stands_in c (queue_of q es) ≡ false
+    → is_queued_in c (queue_of q es) ≡ false
 nowhere c q es n =
-    false_unless (stands_in c (queue_of q es)) (λ s.
-    let r = stands-entry c q es s in
+    false_unless (is_queued_in c (queue_of q es)) (λ s.
+    let r = queued-entry c q es s in
     let t = any-in (λ (d : ℕ × Waiter). d.1.client == c) es r.0 r.1 (eq-eqb r.0.1.client c r.3) in
     absurd (false≢true (sym n ∙ t)))
 
 pub no-entry : (c : ℕ) (es : List (ℕ × Waiter))
-    → ((q : ℕ) → stands_in c (queue_of q es) ≡ false) → has_waiter c es ≡ false
+    → ((q : ℕ) → is_queued_in c (queue_of q es) ≡ false) → has_waiter c es ≡ false
 no-entry c es f =
     false_unless (has_waiter c es) (λ h.
     let r = any-out (λ (d : ℕ × Waiter). d.1.client == c) es h in
     let same : r.0.1.client ≡ c = grind (arith, nat_tests, r.2) in
-    let t = subst (λ n. stands_in n (queue_of r.0.0 es) ≡ true) same (entry-stands r.0 es r.1) in
+    let t = subst (λ n. is_queued_in n (queue_of r.0.0 es) ≡ true) same (entry-queued r.0 es r.1) in
     absurd (false≢true (sym (f r.0.0) ∙ t)))
 
 -- the only entry of a client
@@ -80,9 +80,9 @@ pub only-waiter : (c : ℕ) (e : ℕ × Waiter) (es : List (ℕ × Waiter)) → 
 only-waiter c e es o i is q =
     sym (queue_of-filter (λ w. w.client == c) q es) ∙ ap (queue_of q) (filter-one c e es o i is)
 
-pub queue_of-without : (c q : ℕ) (es : List (ℕ × Waiter))
-    → queue_of q (filter (λ e. not (e.1.client == c)) es) ≡ without c (queue_of q es)
-queue_of-without c q es = queue_of-filter (λ w. not (w.client == c)) q es
+pub queue_of-other_waiters : (c q : ℕ) (es : List (ℕ × Waiter))
+    → queue_of q (filter (λ e. not (e.1.client == c)) es) ≡ other_waiters c (queue_of q es)
+queue_of-other_waiters c q es = queue_of-filter (λ w. not (w.client == c)) q es
 
 -- each entry stays the only one of its client
 pub IsOnce-push : (e : ℕ × Waiter) (es : List (ℕ × Waiter)) → IsOnce es
@@ -119,52 +119,55 @@ IsOnce-filter p (e ∷ es) o = go (p e) (IsOnce-filter p es o.1)
     go false ih = ih
 
 -- the last entry of each client
-has_waiter-latest : (c : ℕ) (es : List (ℕ × Waiter)) → has_waiter c (latest es) ≡ has_waiter c es
-has_waiter-latest c [] = refl
-has_waiter-latest c (e ∷ es) =
-    go (has_waiter e.1.client es) (e.1.client == c) refl refl (has_waiter-latest c es)
+has_waiter-latest_waiters : (c : ℕ) (es : List (ℕ × Waiter)) → has_waiter c (latest_waiters es)
+    ≡ has_waiter c es
+has_waiter-latest_waiters c [] = refl
+has_waiter-latest_waiters c (e ∷ es) =
+    go (has_waiter e.1.client es) (e.1.client == c) refl refl (has_waiter-latest_waiters c es)
   where
     go : (b x : Bool) → has_waiter e.1.client es ≡ b → (e.1.client == c) ≡ x
-        → has_waiter c (latest es) ≡ has_waiter c es
-        → has_waiter c (cond b (latest es) (e ∷ latest es)) ≡ (x || has_waiter c es)
+        → has_waiter c (latest_waiters es) ≡ has_waiter c es
+        → has_waiter c (cond b (latest_waiters es) (e ∷ latest_waiters es)) ≡ (x || has_waiter c es)
     go true true h t ih =
         let same : e.1.client ≡ c = grind (arith, nat_tests) in
         ih ∙ (ap (λ n. has_waiter n es) (sym same) ∙ h)
     go true false h t ih = ih
     go false x h t ih = rw t (ap (λ b. x || b) ih)
 
-pub IsOnce-latest : (es : List (ℕ × Waiter)) → IsOnce (latest es)
-IsOnce-latest [] = tt
-IsOnce-latest (e ∷ es) = go (has_waiter e.1.client es) refl (IsOnce-latest es)
+pub IsOnce-latest_waiters : (es : List (ℕ × Waiter)) → IsOnce (latest_waiters es)
+IsOnce-latest_waiters [] = tt
+IsOnce-latest_waiters (e ∷ es) = go (has_waiter e.1.client es) refl (IsOnce-latest_waiters es)
   where
-    go : (b : Bool) → has_waiter e.1.client es ≡ b → IsOnce (latest es)
-        → IsOnce (cond b (latest es) (e ∷ latest es))
+    go : (b : Bool) → has_waiter e.1.client es ≡ b → IsOnce (latest_waiters es)
+        → IsOnce (cond b (latest_waiters es) (e ∷ latest_waiters es))
     go true h ih = ih
-    go false h ih = (has_waiter-latest e.1.client es ∙ h, ih)
+    go false h ih = (has_waiter-latest_waiters e.1.client es ∙ h, ih)
 
-latest-once : (es : List (ℕ × Waiter)) → IsOnce es → latest es ≡ es
-latest-once [] o = refl
-latest-once (e ∷ es) o = rw o.0 (ap (λ xs. e ∷ xs) (latest-once es o.1))
+latest_waiters-once : (es : List (ℕ × Waiter)) → IsOnce es → latest_waiters es ≡ es
+latest_waiters-once [] o = refl
+latest_waiters-once (e ∷ es) o = rw o.0 (ap (λ xs. e ∷ xs) (latest_waiters-once es o.1))
 
-pub In-latest : (d : ℕ × Waiter) (es : List (ℕ × Waiter)) → In d (latest es) → In d es
-In-latest d [] i = absurd i
-In-latest d (e ∷ es) i = go (has_waiter e.1.client es) (In-latest d es) i
+pub In-latest_waiters : (d : ℕ × Waiter) (es : List (ℕ × Waiter)) → In d (latest_waiters es)
+    → In d es
+In-latest_waiters d [] i = absurd i
+In-latest_waiters d (e ∷ es) i = go (has_waiter e.1.client es) (In-latest_waiters d es) i
   where
-    go : (b : Bool) → (In d (latest es) → In d es)
-        → In d (cond b (latest es) (e ∷ latest es)) → In d (e ∷ es)
+    go : (b : Bool) → (In d (latest_waiters es) → In d es)
+        → In d (cond b (latest_waiters es) (e ∷ latest_waiters es)) → In d (e ∷ es)
     go true ih h = inr (ih h)
     go false ih (inl h) = inl h
     go false ih (inr h) = inr (ih h)
 
 -- if all waiters are queued, each queue is formed from all of them
-pub all-stand : (w : Waits) → AllStand w.objects w.waiting → waiting_of w ≡ w.waiting
-all-stand w a =
-    ap latest (filter-all (λ (e : ℕ × Waiter). is_listed e.0 w.objects) w.waiting a.made)
-    ∙ latest-once w.waiting a.once
+pub all-queued : (w : Waits) → AllQueued w.objects w.waiting → waiting_of w ≡ w.waiting
+all-queued w a =
+    ap latest_waiters
+    (filter-all (λ (e : ℕ × Waiter). is_listed e.0 w.objects) w.waiting a.is_queue)
+    ∙ latest_waiters-once w.waiting a.once
 
-pub queue-is : (w : Waits) → AllStand w.objects w.waiting
+pub queue-is : (w : Waits) → AllQueued w.objects w.waiting
     → (q : ℕ) → queue_in w q ≡ queue_of q w.waiting
-queue-is w a q = ap (queue_of q) (all-stand w a)
+queue-is w a q = ap (queue_of q) (all-queued w a)
 
 -- two entries of one client are the same
 pub one_entry : (d e : ℕ × Waiter) (es : List (ℕ × Waiter)) → IsOnce es → In d es → In e es

@@ -1,7 +1,7 @@
 ghost use Rattle.std.specs.Prelude.{◌≤◌};
 
 use pt_mutex::MutexObj;
-use pt_types::{ClientId, Consistency, Deadline, MOST_LOCKS, MutexKind, Outcome, Verdict};
+use pt_types::{ClientId, Consistency, Deadline, MAX_LOCKS, MutexKind, Outcome, Verdict};
 
 const A: ClientId = ClientId(0);
 
@@ -16,7 +16,7 @@ fn deadline(nsec: u64) -> Deadline
 
 // Returns the verdicts of `lock`, `trylock`, `timedlock`, and `timedlock` with 1,000,000,000
 // nanoseconds.
-fn told(mutex: &MutexObj, caller: ClientId) -> [Verdict; 4] {
+fn lock_verdicts(mutex: &MutexObj, caller: ClientId) -> [Verdict; 4] {
     [
         mutex.verdict_lock(caller),
         mutex.verdict_try(caller),
@@ -26,7 +26,7 @@ fn told(mutex: &MutexObj, caller: ClientId) -> [Verdict; 4] {
 }
 
 // Returns the verdicts of `unlock` and `consistent`.
-fn told_by_right(mutex: &MutexObj, caller: ClientId) -> [Verdict; 2] {
+fn right_verdicts(mutex: &MutexObj, caller: ClientId) -> [Verdict; 2] {
     [
         mutex.verdict_unlock(caller),
         mutex.verdict_consistent(caller),
@@ -35,7 +35,7 @@ fn told_by_right(mutex: &MutexObj, caller: ClientId) -> [Verdict; 2] {
 
 // Gives the client the lock, if it can have it once more.
 fn lock(mutex: &mut MutexObj, client: ClientId) {
-    let relocks = mutex.kind() == MutexKind::Recursive && mutex.count() < MOST_LOCKS;
+    let relocks = mutex.kind() == MutexKind::Recursive && mutex.count() < MAX_LOCKS;
     if mutex.owner().is_none() || mutex.is_owned_by(client) && relocks {
         mutex.acquire(client);
     }
@@ -50,7 +50,7 @@ fn unlock(mutex: &mut MutexObj, client: ClientId) {
 
 /// What happened to a robust mutex so far.
 #[derive(Clone, Copy)]
-enum Past {
+enum Origin {
     /// A has locked it this often, or as often as it can.
     Locked(u8),
     /// A died while it owned the mutex.
@@ -58,13 +58,13 @@ enum Past {
     /// A died while it owned the mutex, and B owns it.
     Inherited,
     /// A died while it owned the mutex, and B owned it and gave it back.
-    Lost,
+    Unrecoverable,
 }
 
 // Returns a robust mutex of this kind with this past.
-fn mutex_after(kind: MutexKind, past: Past) -> MutexObj {
+fn mutex_after(kind: MutexKind, origin: Origin) -> MutexObj {
     let mut mutex = MutexObj::new(kind, true);
-    let locks = if let Past::Locked(locks) = past {
+    let locks = if let Origin::Locked(locks) = origin {
         locks
     } else {
         1
@@ -72,13 +72,13 @@ fn mutex_after(kind: MutexKind, past: Past) -> MutexObj {
     for _ in 0..locks {
         lock(&mut mutex, A);
     }
-    if !matches!(past, Past::Locked(_)) {
+    if !matches!(origin, Origin::Locked(_)) {
         mutex.yield_dead();
     }
-    if matches!(past, Past::Inherited | Past::Lost) {
+    if matches!(origin, Origin::Inherited | Origin::Unrecoverable) {
         lock(&mut mutex, B);
     }
-    if matches!(past, Past::Lost) {
+    if matches!(origin, Origin::Unrecoverable) {
         unlock(&mut mutex, B);
     }
     mutex
@@ -91,7 +91,7 @@ fn is_told(
     locks: [Verdict; 4],
     by_right: [Verdict; 2],
 ) -> bool {
-    told(mutex, caller) == locks && told_by_right(mutex, caller) == by_right
+    lock_verdicts(mutex, caller) == locks && right_verdicts(mutex, caller) == by_right
 }
 
 // Returns true if the verdicts that are the same for every kind hold for a mutex of this kind.
@@ -100,15 +100,15 @@ fn is_as_every_mutex(kind: MutexKind) -> bool {
         Verdict::Reply,
     );
     let stands = [Verdict::Stands; 4];
-    let held = [Verdict::Stands, busy, Verdict::Stands, einval];
-    for (past, caller, locks, by_right) in [
-        (Past::Locked(1), B, held, [eperm, einval]),
-        (Past::Orphaned, B, stands, [eperm, eperm]),
-        (Past::Inherited, A, held, [eperm, eperm]),
-        (Past::Lost, A, stands, [eperm, einval]),
-        (Past::Lost, B, stands, [eperm, einval]),
+    let owned = [Verdict::Stands, busy, Verdict::Stands, einval];
+    for (origin, caller, locks, by_right) in [
+        (Origin::Locked(1), B, owned, [eperm, einval]),
+        (Origin::Orphaned, B, stands, [eperm, eperm]),
+        (Origin::Inherited, A, owned, [eperm, eperm]),
+        (Origin::Unrecoverable, A, stands, [eperm, einval]),
+        (Origin::Unrecoverable, B, stands, [eperm, einval]),
     ] {
-        if !is_told(&mutex_after(kind, past), caller, locks, by_right) {
+        if !is_told(&mutex_after(kind, origin), caller, locks, by_right) {
             return false;
         }
     }
@@ -125,32 +125,43 @@ fn verdicts_of_every_kind(rt: HostRuntime) {
 // Returns true if owners are answered as the table says.
 fn are_owners_told() -> bool {
     let [done, busy] = [Outcome::Done, Outcome::Ebusy].map(Verdict::Reply);
-    let [again, deadlock, einval] = [Outcome::Eagain, Outcome::Edeadlk, Outcome::Einval].map(
+    let [eagain, deadlock, einval] = [Outcome::Eagain, Outcome::Edeadlk, Outcome::Einval].map(
         Verdict::Reply,
     );
     let checked = [deadlock, busy, deadlock, deadlock];
     let normal = [Verdict::Stands, busy, Verdict::Stands, einval];
-    for (kind, past, caller, locks, consistent) in [
-        (MutexKind::Recursive, Past::Locked(1), A, [done; 4], einval),
+    for (kind, origin, caller, locks, consistent) in [
         (
             MutexKind::Recursive,
-            Past::Locked(254),
+            Origin::Locked(1),
             A,
             [done; 4],
             einval,
         ),
         (
             MutexKind::Recursive,
-            Past::Locked(255),
+            Origin::Locked(254),
             A,
-            [again; 4],
+            [done; 4],
             einval,
         ),
-        (MutexKind::Recursive, Past::Inherited, B, [done; 4], done),
-        (MutexKind::Errorcheck, Past::Locked(1), A, checked, einval),
-        (MutexKind::Normal, Past::Locked(1), A, normal, einval),
+        (
+            MutexKind::Recursive,
+            Origin::Locked(255),
+            A,
+            [eagain; 4],
+            einval,
+        ),
+        (MutexKind::Recursive, Origin::Inherited, B, [done; 4], done),
+        (MutexKind::Errorcheck, Origin::Locked(1), A, checked, einval),
+        (MutexKind::Normal, Origin::Locked(1), A, normal, einval),
     ] {
-        if !is_told(&mutex_after(kind, past), caller, locks, [done, consistent]) {
+        if !is_told(
+            &mutex_after(kind, origin),
+            caller,
+            locks,
+            [done, consistent],
+        ) {
             return false;
         }
     }
@@ -164,7 +175,7 @@ fn verdicts_of_an_owner(rt: HostRuntime) {
 
 // Returns true if A has `count` locks after `locks` calls.
 fn is_counted(kind: MutexKind, locks: u8, count: u8) -> bool {
-    let mutex = mutex_after(kind, Past::Locked(locks));
+    let mutex = mutex_after(kind, Origin::Locked(locks));
     mutex.is_owned_by(A) && mutex.owner() == Some(A) && mutex.count() == count
 }
 
@@ -178,8 +189,8 @@ fn counts_up_to_255(rt: HostRuntime) {
 }
 
 // Returns true if the consistency after this past is `before`, and is `after` once it is marked.
-fn is_marked(past: Past, before: Consistency, after: Consistency) -> bool {
-    let mut mutex = mutex_after(MutexKind::Recursive, past);
+fn is_marked(origin: Origin, before: Consistency, after: Consistency) -> bool {
+    let mut mutex = mutex_after(MutexKind::Recursive, origin);
     let first = mutex.consistency();
     mutex.mark_consistent();
     first == before && mutex.consistency() == after
@@ -187,16 +198,16 @@ fn is_marked(past: Past, before: Consistency, after: Consistency) -> bool {
 
 #[test]
 fn the_consistency_by_its_events(rt: HostRuntime) {
-    let [good, bad, lost] = [
+    let [good, bad, not_recoverable] = [
         Consistency::Consistent,
         Consistency::Inconsistent,
         Consistency::NotRecoverable,
     ];
     assert!(rt;
-        is_marked(Past::Locked(1), good, good)
-            && is_marked(Past::Orphaned, bad, good)
-            && is_marked(Past::Inherited, bad, good)
-            && is_marked(Past::Lost, lost, lost)
+        is_marked(Origin::Locked(1), good, good)
+            && is_marked(Origin::Orphaned, bad, good)
+            && is_marked(Origin::Inherited, bad, good)
+            && is_marked(Origin::Unrecoverable, not_recoverable, not_recoverable)
     );
 }
 
@@ -207,7 +218,7 @@ fn seen(mutex: &MutexObj) -> (Consistency, Option<ClientId>, u8) {
 
 // Returns true if a robust mutex is in order again after two deaths and a repair.
 fn is_repaired() -> bool {
-    let mut mutex = mutex_after(MutexKind::Recursive, Past::Inherited);
+    let mut mutex = mutex_after(MutexKind::Recursive, Origin::Inherited);
     mutex.yield_dead();
     let orphaned = seen(&mutex);
     lock(&mut mutex, A);
@@ -230,7 +241,7 @@ fn a_second_death_and_a_repair(rt: HostRuntime) {
 
 // Returns the verdicts of `mutex-destroy`: if the owner lives, if also a call waits, and if the
 // owner is dead.
-fn told_destroy(mutex: &MutexObj) -> [Verdict; 3] {
+fn destroy_verdicts(mutex: &MutexObj) -> [Verdict; 3] {
     [
         mutex.verdict_destroy(true, false),
         mutex.verdict_destroy(true, true),
@@ -243,12 +254,12 @@ fn told_destroy(mutex: &MutexObj) -> [Verdict; 3] {
 fn is_busy_in_time() -> bool {
     let [done, ebusy] = [Outcome::Done, Outcome::Ebusy].map(Verdict::Reply);
     let mut mutex = MutexObj::new(MutexKind::Normal, true);
-    let free = told_destroy(&mutex);
+    let free = destroy_verdicts(&mutex);
     mutex.acquire(A);
-    let owned = told_destroy(&mutex);
+    let owned = destroy_verdicts(&mutex);
     mutex.bind();
     mutex.release(A);
-    let named = told_destroy(&mutex);
+    let named = destroy_verdicts(&mutex);
     let waits = mutex.bound_waits();
     mutex.unbind();
     free == [done, ebusy, done]

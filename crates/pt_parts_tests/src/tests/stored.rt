@@ -250,7 +250,7 @@ fn take_little(heap: &LocalHeap, words: &Words, at: u64) -> bool
 {
     let mut history = begin(heap, at);
     push_ordinary(&mut history, words, at, 30_000);
-    history.held() == 30_000 && heap.used() <= 40 * 30_000
+    history.entry_count() == 30_000 && heap.used() <= 40 * 30_000
 }
 
 #[test]

@@ -1,7 +1,7 @@
 ghost use Rattle.std.specs.Prelude.{◌≡◌, ◌∷◌, ℕ, List, Option, Some, false, nat_eq};
 ghost use Rattle.std.specs.Bool.{OnTrue};
 ghost use Rattle.pt_table.specs.ObjectRows.{has_object, with_object};
-ghost use Rattle.pt_table.specs.Linked.{HasChain, IsChain};
+ghost use Rattle.pt_table.specs.Linked.{HasChain, IsRowChain};
 ghost use Rattle.pt_parts_tests.specs.Linking.{AreFree, IsFree};
 
 use pt_failing_alloc::{Refusing, refuse_each};
@@ -212,8 +212,8 @@ fn link_free(objects: &mut Objects<u64>, head: Option<u64>, number: u64) -> u64
     requires chain { HasChain objects.old head }
     requires free { IsFree objects.old number }
     ensures chain { (numbers : List ℕ)
-        → IsChain objects.old head numbers
-        → IsChain objects.new (Some result) (number ∷ numbers) }
+        → IsRowChain objects.old head numbers
+        → IsRowChain objects.new (Some result) (number ∷ numbers) }
     ensures free { (n : ℕ)
         → nat_eq number n ≡ false
         → IsFree objects.old n

@@ -1,5 +1,5 @@
 ghost use Rattle.std.specs.Prelude.{ℕ, ◌≡◌, ◌+◌, ◌≤◌, false, None, OnOk};
-ghost use Rattle.pt_types.specs.Times.{is_bad_deadline};
+ghost use Rattle.pt_types.specs.Times.{is_invalid_deadline};
 ghost use Rattle.pt_timers.specs.Deadlines.{deadline_at};
 
 use pt_failing_alloc::{Refusing, refuse_each};
@@ -39,7 +39,7 @@ fn set_next(
     place: u64,
     deadline: Deadline,
 ) -> Result<bool, Fail>
-    requires good { is_bad_deadline deadline ≡ false }
+    requires good { is_invalid_deadline deadline ≡ false }
     requires unset { (p : ℕ) → place ≤ p → deadline_at timers.old p ≡ None }
     ensures { OnOk result ((p : ℕ) → place + 1 ≤ p → deadline_at timers.new p ≡ None) }
 {
@@ -112,8 +112,8 @@ fn due_at(timers: &Timers, real: Option<Moment>, mono: Option<Moment>) -> Option
 // Returns true if three timers of one clock are due in the order of their deadlines, then of their
 // places.
 fn are_due_in_order(alloc: Global, soon: Deadline, late: Deadline) -> bool
-    requires soon { is_bad_deadline soon ≡ false }
-    requires late { is_bad_deadline late ≡ false }
+    requires soon { is_invalid_deadline soon ≡ false }
+    requires late { is_invalid_deadline late ≡ false }
 {
     let mut timers = Timers::new(alloc);
     let none = timers.least(Clock::Real);
@@ -146,8 +146,8 @@ fn due_at_their_nanosecond_by_deadline_then_place(rt: HostRuntime) -> Result<(),
 
 // Returns true if three timers are due by their own clocks.
 fn are_due_by_their_clocks(alloc: Global, soon: Deadline, late: Deadline) -> bool
-    requires soon { is_bad_deadline soon ≡ false }
-    requires late { is_bad_deadline late ≡ false }
+    requires soon { is_invalid_deadline soon ≡ false }
+    requires late { is_invalid_deadline late ≡ false }
 {
     let Some(nine) = Moment::new(9, 0) else {
         return false;

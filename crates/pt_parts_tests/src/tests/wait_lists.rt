@@ -98,10 +98,10 @@ impl Draws {
 // Inserts a waiter, unless its client waits already.
 fn insert<W: WaitList>(list: &mut W, object: ObjectId, waiter: Waiter)
     requires admitted { (W.seen list.old).admitted waiter.client ≡ true }
-    requires made { (W.seen list.old).made object ≡ true }
+    requires is_queue { (W.seen list.old).is_queue object ≡ true }
     requires earlier { (q : ℕ) → Each (λ v. v.moved < waiter.moved) ((W.seen list.old).queue q) }
     ensures admitted { (c : ℕ) → (W.seen list.new).admitted c ≡ (W.seen list.old).admitted c }
-    ensures made { (q : ℕ) → (W.seen list.new).made q ≡ (W.seen list.old).made q }
+    ensures is_queue { (q : ℕ) → (W.seen list.new).is_queue q ≡ (W.seen list.old).is_queue q }
     ensures earlier { (q : ℕ) → Each (λ v. v.moved < waiter.moved + 1) ((W.seen list.new).queue q) }
 {
     if list.at(waiter.client).is_some() {
@@ -116,7 +116,7 @@ fn admit_again<W: WaitList>(list: &mut W, one: ClientId, other: ClientId) -> Res
     requires other { (W.seen list.old).admitted other ≡ true }
     ensures admitted { OnOk result ((c : ℕ)
         → (W.seen list.new).admitted c ≡ (W.seen list.old).admitted c) }
-    ensures made { (q : ℕ) → (W.seen list.new).made q ≡ (W.seen list.old).made q }
+    ensures is_queue { (q : ℕ) → (W.seen list.new).is_queue q ≡ (W.seen list.old).is_queue q }
     ensures queues { (q : ℕ) → (W.seen list.new).queue q ≡ (W.seen list.old).queue q }
 {
     if one == other || list.at(one).is_some() || list.at(other).is_some() {
@@ -130,9 +130,10 @@ fn admit_again<W: WaitList>(list: &mut W, one: ClientId, other: ClientId) -> Res
 
 // Discards a queue and makes it again, unless a call waits there.
 fn make_again<W: WaitList>(list: &mut W, object: ObjectId) -> Result<(), Refusal>
-    requires { (W.seen list.old).made object ≡ true }
+    requires { (W.seen list.old).is_queue object ≡ true }
     ensures admitted { (c : ℕ) → (W.seen list.new).admitted c ≡ (W.seen list.old).admitted c }
-    ensures made { OnOk result ((q : ℕ) → (W.seen list.new).made q ≡ (W.seen list.old).made q) }
+    ensures is_queue { OnOk result ((q : ℕ)
+        → (W.seen list.new).is_queue q ≡ (W.seen list.old).is_queue q) }
     ensures queues { (q : ℕ) → (W.seen list.new).queue q ≡ (W.seen list.old).queue q }
 {
     if list.len(object) != 0 {
@@ -243,7 +244,7 @@ fn admit_all<W: WaitList>(list: &mut W) -> Result<(), Refusal>
     requires { (c : ℕ) → (W.seen list.old).admitted c ≡ false }
     ensures admitted { OnOk result ((c : ℕ)
         → c < clients_in_play → (W.seen list.new).admitted c ≡ true) }
-    ensures made { (q : ℕ) → (W.seen list.new).made q ≡ (W.seen list.old).made q }
+    ensures is_queue { (q : ℕ) → (W.seen list.new).is_queue q ≡ (W.seen list.old).is_queue q }
     ensures queues { (q : ℕ) → (W.seen list.new).queue q ≡ (W.seen list.old).queue q }
 {
     for number in 0..CLIENTS {
@@ -253,8 +254,9 @@ fn admit_all<W: WaitList>(list: &mut W) -> Result<(), Refusal>
 }
 
 fn make_all<W: WaitList>(list: &mut W) -> Result<(), Refusal>
-    requires { (q : ℕ) → (W.seen list.old).made q ≡ false }
-    ensures made { OnOk result ((q : ℕ) → q < queues_in_play → (W.seen list.new).made q ≡ true) }
+    requires { (q : ℕ) → (W.seen list.old).is_queue q ≡ false }
+    ensures is_queue { OnOk result ((q : ℕ) → q < queues_in_play
+        → (W.seen list.new).is_queue q ≡ true) }
     ensures admitted { (c : ℕ) → (W.seen list.new).admitted c ≡ (W.seen list.old).admitted c }
     ensures queues { (q : ℕ) → (W.seen list.new).queue q ≡ (W.seen list.old).queue q }
 {
@@ -265,7 +267,7 @@ fn make_all<W: WaitList>(list: &mut W) -> Result<(), Refusal>
 // Brings an empty list into play: admits the clients and makes the queues.
 fn begin<W: WaitList>(list: &mut W) -> Result<(), &'static str>
     requires clients { (c : ℕ) → (W.seen list.old).admitted c ≡ false }
-    requires unmade { (q : ℕ) → (W.seen list.old).made q ≡ false }
+    requires unmade { (q : ℕ) → (W.seen list.old).is_queue q ≡ false }
     requires empty { (q : ℕ) → (W.seen list.old).queue q ≡ [] }
     ensures { OnOk result (IsInPlay (W.seen list.new) 0) }
 {
@@ -329,10 +331,10 @@ fn play_2000<P: WaitList, C: WaitList>(plain: &mut P, chains: &mut C) -> Result<
 
 fn play_all<P: WaitList, C: WaitList>(plain: &mut P, chains: &mut C) -> Result<(), &'static str>
     requires clients { (c : ℕ) → (P.seen plain.old).admitted c ≡ false }
-    requires unmade { (q : ℕ) → (P.seen plain.old).made q ≡ false }
+    requires unmade { (q : ℕ) → (P.seen plain.old).is_queue q ≡ false }
     requires empty { (q : ℕ) → (P.seen plain.old).queue q ≡ [] }
     requires no_clients { (c : ℕ) → (C.seen chains.old).admitted c ≡ false }
-    requires no_queues { (q : ℕ) → (C.seen chains.old).made q ≡ false }
+    requires no_queues { (q : ℕ) → (C.seen chains.old).is_queue q ≡ false }
     requires no_waiters { (q : ℕ) → (C.seen chains.old).queue q ≡ [] }
 {
     begin(plain)?;

@@ -48,7 +48,7 @@ fn sends<'a, L: Ledger>(
 }
 
 // Makes a call that is answered at once at this place.
-fn asks<'a, L: Ledger>(
+fn calls<'a, L: Ledger>(
     hub: &mut Hub<L, &'a Refusing<Global>>,
     pass: &mut Pass<L, &'a Refusing<Global>>,
     word: Word,
@@ -129,16 +129,16 @@ fn ticks<'a, L: Ledger>(
 // Lets a client make a mutex and lock it, and the clock go on. The history is sealed before the
 // lock, and again before its answer is taken. Returns whether a growth was refused.
 fn plays<'a, L: Ledger>(hub: &mut Hub<L, &'a Refusing<Global>>) -> Result<bool, &'static str> {
-    let (mut clock, opened) = opens(hub)?;
+    let (mut clock, began) = opens(hub)?;
     let (mut pass, joined) = joins(hub)?;
-    let made = asks(hub, &mut pass, Word::MutexInit, 1)?;
+    let created = calls(hub, &mut pass, Word::MutexInit, 1)?;
     takes(hub, &mut pass, 1)?;
     let sealed = seals(hub, 2)?;
-    let locked = asks(hub, &mut pass, Word::Lock, 2)?;
-    let sealed_again = seals(hub, 4)?;
+    let locked = calls(hub, &mut pass, Word::Lock, 2)?;
+    let resealed = seals(hub, 4)?;
     takes(hub, &mut pass, 2)?;
     let ticked = ticks(hub, &mut clock, 5)?;
-    Ok(opened || joined || made || sealed || locked || sealed_again || ticked)
+    Ok(began || joined || created || sealed || locked || resealed || ticked)
 }
 
 // Row 24, from the first call to the last answer. Returns whether a growth was refused.
@@ -147,9 +147,9 @@ fn plays_row_24<'a, L: Ledger>(
     a: &mut Pass<L, &'a Refusing<Global>>,
     b: &mut Pass<L, &'a Refusing<Global>>,
 ) -> Result<bool, &'static str> {
-    let made = asks(hub, a, Word::MutexInit, 2)?;
+    let created = calls(hub, a, Word::MutexInit, 2)?;
     takes(hub, a, 2)?;
-    let locked = asks(hub, a, Word::Lock, 3)?;
+    let locked = calls(hub, a, Word::Lock, 3)?;
     let blocked = sends(hub, a, Word::Unlock, Err(Refusal::Blocked))?;
     takes(hub, a, 3)?;
     let waits = Ok(Sent {
@@ -158,23 +158,20 @@ fn plays_row_24<'a, L: Ledger>(
     });
     let waited = sends(hub, b, Word::Lock, waits)?;
     let none = hub.take(a).is_none() && hub.take(b).is_none();
-    let unlocked = asks(hub, a, Word::Unlock, 6)?;
+    let unlocked = calls(hub, a, Word::Unlock, 6)?;
     takes(hub, b, 5)?;
     takes(hub, a, 6)?;
     if blocked || !none {
         return Err("a call that is BLOCKED meets want of memory, or an answer is taken early");
     }
-    Ok(made || locked || waited || unlocked)
+    Ok(created || locked || waited || unlocked)
 }
 
 type Refused<'a, L> = CloseRefused<Core<&'a Refusing<Global>>, L, &'a Refusing<Global>>;
 
 // Closes once more with what the last client left. Returns true if the first close missed its
 // events, and the second succeeds.
-fn closes_again<'a, L: Ledger>(
-    refused: Refused<'a, L>,
-    last: Left<L, &'a Refusing<Global>>,
-) -> bool {
+fn recloses<'a, L: Ledger>(refused: Refused<'a, L>, last: Left<L, &'a Refusing<Global>>) -> bool {
     let CloseRefused {
         fault,
         hub,
@@ -212,7 +209,7 @@ fn ends<'a, L: Ledger>(
     let are_added = lefts.push(left).is_ok() && clocks.push(clock).is_ok();
     match hub.close(lefts, clocks) {
         Ok(_) => false,
-        Err(refused) => closes_again(refused, last) && are_dead && are_added,
+        Err(refused) => recloses(refused, last) && are_dead && are_added,
     }
 }
 

@@ -15,7 +15,7 @@ use std::sync::ledger::{Blank, Ledger};
 #[derive(Clone, Copy)]
 pub(super) enum Step {
     // A client's call that is answered at once. Its entry has this place.
-    Asks(usize, Word, u64),
+    Calls(usize, Word, u64),
     // A client's call that has to wait. Its entry has this place.
     Waits(usize, Word, u64),
     Refused(usize, Word, Refusal),
@@ -124,7 +124,7 @@ fn first_answered<L: Ledger>(hub: &Hub<L, Global>, place: u64) -> Option<u64> {
 // Returns true if what a client does comes out as it must.
 fn comes_out<L: Ledger>(hub: &mut Hub<L, Global>, pass: &mut Pass<L>, step: Step) -> bool {
     match step {
-        Step::Asks(_, word, place) => sends(hub, pass, word) == Ok(Sent { place, ready: true }),
+        Step::Calls(_, word, place) => sends(hub, pass, word) == Ok(Sent { place, ready: true }),
         Step::Waits(_, word, place) => sends(hub, pass, word)
             == Ok(Sent {
                 place,
@@ -144,7 +144,7 @@ fn plays<L: Ledger>(
     step: Step,
 ) -> bool {
     match step {
-        Step::Asks(client, _, _)
+        Step::Calls(client, _, _)
         | Step::Waits(client, _, _)
         | Step::Refused(client, _, _)
         | Step::Takes(client, _, _)
@@ -228,7 +228,7 @@ fn is_closed<L: Ledger>(ended: Result<Closed, CloseRefused<L>>, expected: Closed
 
 // Returns true if a close was refused because the last client is missing, and a close with all
 // clients succeeds.
-fn closes_again<L: Ledger>(refused: CloseRefused<L>, last: Option<Left<L>>, row: &Row) -> bool {
+fn recloses<L: Ledger>(refused: CloseRefused<L>, last: Option<Left<L>>, row: &Row) -> bool {
     let CloseRefused {
         fault,
         hub,
@@ -252,7 +252,7 @@ fn closes<L: Ledger>(
     let last = lefts.pop();
     match hub.close(lefts, clocks) {
         Ok(_) => false,
-        Err(refused) => closes_again(refused, last, row),
+        Err(refused) => recloses(refused, last, row),
     }
 }
 

@@ -24,15 +24,15 @@ pub(super) const LEFT_24: &[Leaving] = &[
 // Calls that are answered or refused, and answers that are taken.
 const ROW_24: Row = Row {
     steps: &[
-        Step::Asks(0, Word::MutexInit, 2),
+        Step::Calls(0, Word::MutexInit, 2),
         Step::Takes(0, 2, Outcome::Done),
-        Step::Asks(0, Word::Lock, 3),
+        Step::Calls(0, Word::Lock, 3),
         Step::Refused(0, Word::Unlock, Refusal::Blocked),
         Step::Takes(0, 3, Outcome::Done),
         Step::TakesNothing(0),
         Step::Waits(1, Word::Lock, 5),
         Step::TakesNothing(1),
-        Step::Asks(0, Word::Unlock, 6),
+        Step::Calls(0, Word::Unlock, 6),
         Step::Takes(1, 5, Outcome::Done),
         Step::Takes(0, 6, Outcome::Done),
     ],
@@ -52,9 +52,9 @@ fn row_24(rt: HostRuntime) {
 // A writer's deadline passes and lets a reader in.
 const ROW_12: Row = Row {
     steps: &[
-        Step::Asks(0, Word::RwlockInit, 3),
+        Step::Calls(0, Word::RwlockInit, 3),
         Step::Takes(0, 3, Outcome::Done),
-        Step::Asks(0, Word::Rdlock, 4),
+        Step::Calls(0, Word::Rdlock, 4),
         Step::Takes(0, 4, Outcome::Done),
         Step::Waits(1, Word::Timedwrlock, 6),
         Step::Waits(2, Word::Timedrdlock, 7),

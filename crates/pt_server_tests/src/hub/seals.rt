@@ -10,9 +10,9 @@ use pt_types::{Outcome, Refusal};
 // The second lock is open at a seal.
 const ROW_24_SEALED: Row = Row {
     steps: &[
-        Step::Asks(0, Word::MutexInit, 2),
+        Step::Calls(0, Word::MutexInit, 2),
         Step::Takes(0, 2, Outcome::Done),
-        Step::Asks(0, Word::Lock, 3),
+        Step::Calls(0, Word::Lock, 3),
         Step::Seals(5),
         Step::Seals(5),
         Step::Refused(0, Word::Unlock, Refusal::Blocked),
@@ -21,7 +21,7 @@ const ROW_24_SEALED: Row = Row {
         Step::Waits(1, Word::Lock, 5),
         Step::Seals(6),
         Step::TakesNothing(1),
-        Step::Asks(0, Word::Unlock, 6),
+        Step::Calls(0, Word::Unlock, 6),
         Step::Takes(1, 5, Outcome::Done),
         Step::Seals(8),
         Step::Takes(0, 6, Outcome::Done),
@@ -45,16 +45,16 @@ fn row_24_sealed(rt: HostRuntime) {
 // is in the history before this moment, and gone after it.
 const RUNS_ON: Row = Row {
     steps: &[
-        Step::Asks(0, Word::MutexInit, 2),
+        Step::Calls(0, Word::MutexInit, 2),
         Step::Takes(0, 2, Outcome::Done),
-        Step::Asks(0, Word::Lock, 3),
+        Step::Calls(0, Word::Lock, 3),
         Step::Takes(0, 3, Outcome::Done),
         Step::Waits(1, Word::Lock, 5),
         Step::Moments(65_525),
         Step::Answers(4, Some(0)),
         Step::Moments(1),
         Step::Answers(4, None),
-        Step::Asks(0, Word::Unlock, 65_532),
+        Step::Calls(0, Word::Unlock, 65_532),
         Step::Takes(1, 5, Outcome::Done),
         Step::Takes(0, 65_532, Outcome::Done),
     ],

@@ -18,7 +18,7 @@ use std::thread::Threads;
 const TURNS: u8 = 50;
 
 // Returns true if a call is accepted and answered 0.
-fn asks<L: Ledger, R: Wait>(
+fn calls<L: Ledger, R: Wait>(
     rt: &R,
     shared: &Shared<L>,
     session: SessionId,
@@ -37,15 +37,15 @@ fn asks<L: Ledger, R: Wait>(
     }
 }
 
-fn asks_all<L: Ledger, R: Wait>(
+fn calls_all<L: Ledger, R: Wait>(
     rt: &R,
     shared: &Shared<L>,
     session: SessionId,
     pass: &mut Pass<L>,
 ) -> bool {
     for _ in 0..TURNS {
-        if !asks(rt, shared, session, pass, Word::Lock)
-            || !asks(rt, shared, session, pass, Word::Unlock)
+        if !calls(rt, shared, session, pass, Word::Lock)
+            || !calls(rt, shared, session, pass, Word::Unlock)
         {
             return false;
         }
@@ -57,7 +57,7 @@ fn asks_all<L: Ledger, R: Wait>(
 // answered 0.
 fn client<L: Ledger, R: Wait>(rt: &R, shared: &Shared<L>, session: SessionId) -> Option<Left<L>> {
     let mut pass = shared.join(rt, session, Priority::new(10)?).ok()?;
-    let answered = asks_all(rt, shared, session, &mut pass);
+    let answered = calls_all(rt, shared, session, &mut pass);
     let left = shared.die(rt, pass);
     if answered { Some(left) } else { None }
 }
@@ -69,7 +69,7 @@ fn first_client<L: Ledger, R: Wait>(
     session: SessionId,
 ) -> Option<Left<L>> {
     let mut pass = shared.join(rt, session, Priority::new(10)?).ok()?;
-    let answered = asks(rt, shared, session, &mut pass, Word::MutexInit);
+    let answered = calls(rt, shared, session, &mut pass, Word::MutexInit);
     let left = shared.die(rt, pass);
     if answered { Some(left) } else { None }
 }

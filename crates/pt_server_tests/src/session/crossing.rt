@@ -31,7 +31,7 @@ const SECOND: &[u8] = b"hello 10\ntimedlock m 9 0\nunlock m\n";
 // Counts of a session's lines: how many its gate was asked for, and how many were answered.
 #[derive(Drop)]
 struct Marks {
-    asked: AtomicU64,
+    gate_calls: AtomicU64,
     answered: AtomicU64,
 }
 
@@ -90,7 +90,7 @@ impl<'a> Write for Writer<'a> {
 struct Holding<'a, 'b, 'c, L: Ledger, T> {
     rt: &'a T,
     shared: &'b Shared<L>,
-    asked: &'c AtomicU64,
+    gate_calls: &'c AtomicU64,
     line: u64,
     until: Until<'c>,
 }
@@ -108,7 +108,7 @@ impl<'a, 'b, 'c, L: Ledger, T: Wait + HostClock> Holding<'a, 'b, 'c, L, T> {
 
 impl<'a, 'b, 'c, L: Ledger, T: Wait + HostClock> Gate for Holding<'a, 'b, 'c, L, T> {
     fn ask(&self, _session: SessionId, n: u64) -> bool {
-        self.asked.fetch_add(1, Ordering::SeqCst);
+        self.gate_calls.fetch_add(1, Ordering::SeqCst);
         if n != self.line {
             return true;
         }
@@ -152,7 +152,7 @@ fn play<L: Ledger + Send + Sync, R: Threads + Wait + HostClock + Sync>(
     let gate = Holding {
         rt,
         shared,
-        asked: &marks.asked,
+        gate_calls: &marks.gate_calls,
         line,
         until,
     };
@@ -177,7 +177,7 @@ fn play<L: Ledger + Send + Sync, R: Threads + Wait + HostClock + Sync>(
 
 fn no_marks() -> Marks {
     Marks {
-        asked: AtomicU64::new(0),
+        gate_calls: AtomicU64::new(0),
         answered: AtomicU64::new(0),
     }
 }
@@ -203,7 +203,7 @@ fn play_both<L: Ledger + Send + Sync, R: Threads + Wait + HostClock + Sync>(
             READER_TURNS,
             two,
             1,
-            Until::Reaches(&one.asked, 4),
+            Until::Reaches(&one.gate_calls, 4),
         ),
     )
 }

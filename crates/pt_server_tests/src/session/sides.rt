@@ -28,25 +28,25 @@ const TURNS: u32 = 20_000;
 struct Reader<'a, 'b, T> {
     rt: &'a T,
     // The bytes that the next read gives at most.
-    most: usize,
+    limit: usize,
     input: &'b [u8],
     turns: u32,
-    asked: &'b AtomicU64,
+    gate_calls: &'b AtomicU64,
 }
 
 impl<'a, 'b, T: HostClock> Read for Reader<'a, 'b, T> {
     fn read(&mut self, buf: &mut [u8]) -> io::Result<usize> {
         for _ in 0..self.turns {
-            if self.asked.load(Ordering::SeqCst) > 0 {
+            if self.gate_calls.load(Ordering::SeqCst) > 0 {
                 break;
             }
             thread::sleep(self.rt, Duration::from_millis(1));
         }
         self.turns = TURNS;
-        let n = self.input.len().min(buf.len()).min(self.most);
+        let n = self.input.len().min(buf.len()).min(self.limit);
         buf[..n].copy_from_slice(&self.input[..n]);
         self.input = &self.input[n..];
-        self.most = usize::MAX;
+        self.limit = usize::MAX;
         Ok(n)
     }
 }
@@ -56,7 +56,7 @@ impl<'a, 'b, T: HostClock> Read for Reader<'a, 'b, T> {
 struct UntilEnded<'a, 'b, 'c, L: Ledger, T> {
     rt: &'a T,
     shared: &'b Shared<L>,
-    asked: &'c AtomicU64,
+    gate_calls: &'c AtomicU64,
 }
 
 impl<'a, 'b, 'c, L: Ledger, T: Wait + HostClock> Gate for UntilEnded<'a, 'b, 'c, L, T> {
@@ -64,7 +64,7 @@ impl<'a, 'b, 'c, L: Ledger, T: Wait + HostClock> Gate for UntilEnded<'a, 'b, 'c,
         if n > 1 {
             return true;
         }
-        self.asked.store(1, Ordering::SeqCst);
+        self.gate_calls.store(1, Ordering::SeqCst);
         for _ in 0..TURNS {
             if self.shared.input_ended(self.rt, session) {
                 return true;
@@ -107,7 +107,7 @@ fn play_sides<L: Ledger + Send + Sync, R: Threads + Wait + HostClock + Sync>(
     gate: &UntilEnded<'_, '_, '_, L, R>,
 ) -> Option<(Counts, Faulty)> {
     let (session, clock) = shared.open_session(rt).ok()?;
-    let (producer, consumer) = RingBuffer::new(alloc, pt_session::MOST_WAITING).ok()?;
+    let (producer, consumer) = RingBuffer::new(alloc, pt_session::MAX_WAITING).ok()?;
     let (read, work): (ReadEnd<_>, WorkEnd<Faulty, L>) = thread::join(
         rt,
         move || -> ReadEnd<Counted<Reader<'_, '_, R>>>
@@ -193,18 +193,18 @@ fn play_in<L: Ledger + Send + Sync, R: Threads + Wait + HostClock + Sync>(
 {
     let (hub, _) = open::<L, Global>(alloc, alloc, blank)?;
     let shared = pt_session::Shared::new(hub);
-    let asked = AtomicU64::new(0);
+    let gate_calls = AtomicU64::new(0);
     let reader = Reader {
         rt,
-        most: HELLO.len(),
+        limit: HELLO.len(),
         input,
         turns: 0,
-        asked: &asked,
+        gate_calls: &gate_calls,
     };
     let gate = UntilEnded {
         rt,
         shared: &shared,
-        asked: &asked,
+        gate_calls: &gate_calls,
     };
     match form {
         Form::Session => play_session(rt, alloc, &shared, reader, &gate),

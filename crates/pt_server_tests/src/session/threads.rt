@@ -23,7 +23,7 @@ const TURNS: u32 = 10_000;
 // Counts of a session's lines: how many its gate was asked for, and how many were answered.
 #[derive(Drop)]
 struct Marks {
-    asked: AtomicU64,
+    gate_calls: AtomicU64,
     answered: AtomicU64,
 }
 
@@ -82,7 +82,7 @@ impl<'a> Write for Writer<'a> {
 struct Holding<'a, 'b, 'c, L: Ledger, T> {
     rt: &'a T,
     shared: &'b Shared<L>,
-    asked: &'c AtomicU64,
+    gate_calls: &'c AtomicU64,
     line: u64,
     until: Until<'c>,
 }
@@ -100,7 +100,7 @@ impl<'a, 'b, 'c, L: Ledger, T: Wait + HostClock> Holding<'a, 'b, 'c, L, T> {
 
 impl<'a, 'b, 'c, L: Ledger, T: Wait + HostClock> Gate for Holding<'a, 'b, 'c, L, T> {
     fn ask(&self, _session: SessionId, n: u64) -> bool {
-        self.asked.fetch_add(1, Ordering::SeqCst);
+        self.gate_calls.fetch_add(1, Ordering::SeqCst);
         if n != self.line {
             return true;
         }
@@ -146,7 +146,7 @@ fn is_played<L: Ledger + Send + Sync, R: Threads + Wait + HostClock + Sync>(
     let gate = Holding {
         rt,
         shared,
-        asked: &play.marks.asked,
+        gate_calls: &play.marks.gate_calls,
         line: play.line,
         until: play.until,
     };
@@ -205,7 +205,7 @@ fn are_played<R: Threads + Wait + HostClock + Sync>(
 
 fn no_marks() -> Marks {
     Marks {
-        asked: AtomicU64::new(0),
+        gate_calls: AtomicU64::new(0),
         answered: AtomicU64::new(0),
     }
 }
@@ -220,7 +220,7 @@ fn row_27(rt: HostRuntime) {
         marks: &one,
         line: 0,
         until: Until::Deadline,
-        ends_by: &two.asked,
+        ends_by: &two.gate_calls,
         ends_at: 2,
         text: "1 0\n2 0\n3 0\n",
     };
@@ -254,7 +254,7 @@ fn gate_crossing(rt: HostRuntime) {
         input: "hello 10\ntimedlock m 9 0\nunlock m\n",
         marks: &two,
         line: 1,
-        until: Until::Reaches(&one.asked, 4),
+        until: Until::Reaches(&one.gate_calls, 4),
         ends_by: &two.answered,
         ends_at: 3,
         text: "1 0\n2 0\n3 0\n",

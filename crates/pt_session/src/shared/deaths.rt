@@ -21,7 +21,7 @@ impl<C: LegalHistory, L: Ledger> Shared<C, L> {
     /// Watches the connection of a session, if connections are watched here. Returns an error if
     /// the system or a growth refuses it.
     pub fn watch<R: Wait>(&self, rt: &R, session: SessionId, connection: RawFd) -> io::Result<()> {
-        match &mut self.enter(rt).peers {
+        match &mut self.lock(rt).peers {
             Some(peers) => peers.watch(session, connection),
             None => Ok(()),
         }
@@ -30,18 +30,18 @@ impl<C: LegalHistory, L: Ledger> Shared<C, L> {
     /// Watches the connection of a session no more, since its client is dead or it has none. Wakes
     /// those that have waited for this.
     pub fn part<R: Wait>(&self, rt: &R, session: SessionId) {
-        let was_closed = match &mut self.enter(rt).peers {
+        let was_closed = match &mut self.lock(rt).peers {
             Some(peers) => peers.part(session),
             None => false,
         };
         if was_closed {
-            self.deaths.ring();
+            self.deaths.notify_all();
         }
     }
 
     /// Returns whether it was noted that the connection of a session is closed.
     pub fn is_closed<R: Wait>(&self, rt: &R, session: SessionId) -> bool {
-        match &self.enter(rt).peers {
+        match &self.lock(rt).peers {
             Some(peers) => peers.is_closed(session),
             None => false,
         }
@@ -58,9 +58,9 @@ impl<C: LegalHistory, L: Ledger> Shared<C, L> {
             let Some(closed) = peers.next_closed() else {
                 break;
             };
-            self.ring(closed);
+            self.notify(closed);
             // The session may be waiting for another's death.
-            self.deaths.ring();
+            self.deaths.notify_all();
         }
         peers.has_closed()
             && match session {
@@ -71,19 +71,19 @@ impl<C: LegalHistory, L: Ledger> Shared<C, L> {
 
     /// Takes the lock for an event of this session, or of the server's clock, once the clients of
     /// all closed connections are dead.
-    pub(crate) fn enter_for_event<R: Wait>(
+    pub(crate) fn lock_for_event<R: Wait>(
         &self,
         rt: &R,
         session: Option<SessionId>,
     ) -> MutexGuard<'_, Room<C, L>> {
         for _ in rt.forever() {
-            let mut room = self.enter(rt);
+            let mut room = self.lock(rt);
             if !self.has_to_wait(&mut room, session) {
                 return room;
             }
-            let rings = self.deaths.rings();
+            let epoch = self.deaths.epoch();
             drop(room);
-            self.deaths.sleep(rt, rings);
+            self.deaths.sleep(rt, epoch);
         }
         unreachable!()
     }

@@ -1,14 +1,14 @@
 //! Seals that put the entries aside, so that a state can go back to them.
 
 ghost use Rattle.std.specs.Prelude.{◌≡◌, ◌≤◌, [], IfErr, IfOk, OnErr, map};
-ghost use Rattle.pt_types.specs.Limits.{most_places};
+ghost use Rattle.pt_types.specs.Limits.{max_place};
 ghost use Rattle.pt_model.specs.Histories.{Begin, place};
 ghost use Rattle.pt_model.specs.Seals.{seal};
-ghost use Rattle.pt_model.specs.StartRows.{reads_of};
+ghost use Rattle.pt_model.specs.StartRows.{start_of_rows};
 ghost use Rattle.pt_model.specs.Steps.{Follows};
-ghost use Rattle.pt_history.specs.Stored.{past_of};
-ghost use Rattle.pt_records.specs.Logs.{log, logged};
-ghost use Rattle.pt_state.specs.Adds.{past};
+ghost use Rattle.pt_history.specs.Stored.{stored_history};
+ghost use Rattle.pt_records.specs.Logs.{log, log_entry};
+ghost use Rattle.pt_state.specs.Adds.{history_of};
 ghost use Rattle.pt_state.specs.Reads.{AreTables};
 ghost use Rattle.pt_state.specs.Sealed.{SealsWithRoom, StaysOrGrows};
 
@@ -30,14 +30,14 @@ pub struct Unsealed<A: Allocator + Copy = Global> {
 // Returns a history that begins with the seal of a state's history and has room for `room` entries.
 // Returns ENOMEM if a growth is refused.
 fn sealed_history<A: Allocator + Copy>(state: &State<A>, room: u64) -> Result<History<A>, Refusal>
-    requires read { AreTables state.now }
-    requires places { place (past state.now) ≤ most_places }
+    requires tables { AreTables state.now }
+    requires places { place (history_of state.now) ≤ max_place }
     requires room { room ≤ state.now.stored.limit }
-    ensures starts { IfOk result (λ h. reads_of h.start ≡ seal (past state.now)) }
+    ensures starts { IfOk result (λ h. start_of_rows h.start ≡ seal (history_of state.now)) }
     ensures entries { IfOk result (λ h. h.entries ≡ []) }
     ensures limit { IfOk result (λ h. h.limit ≡ state.now.stored.limit) }
     ensures room { IfOk result (λ h. h.room ≡ room) }
-    ensures reason { IfErr result (λ refusal. refusal ≡ Refusal.Enomem) }
+    ensures err { IfErr result (λ refusal. refusal ≡ Refusal.Enomem) }
 {
     let mut stored = state.stored.successor(state.alloc)?;
     let Ok(()) = stored.reserve_for(room) else {
@@ -59,14 +59,14 @@ pub fn seal_with_room<A: Allocator + Copy>(
     state: &mut State<A>,
     room: u64,
 ) -> Result<Unsealed<A>, Refusal>
-    requires read { AreTables state.old }
-    requires places { place (past state.old) ≤ most_places }
+    requires tables { AreTables state.old }
+    requires places { place (history_of state.old) ≤ max_place }
     requires room { room ≤ state.old.stored.limit }
     ensures ok { IfOk result (λ unsealed. SealsWithRoom state.old state.new room) }
     ensures stored { IfOk result (λ unsealed. unsealed.stored ≡ state.old.stored) }
     ensures answers { IfOk result (λ unsealed. unsealed.answers ≡ state.old.answers) }
-    ensures err { OnErr result (state.new ≡ state.old) }
-    ensures reason { IfErr result (λ refusal. refusal ≡ Refusal.Enomem) }
+    ensures unchanged { OnErr result (state.new ≡ state.old) }
+    ensures err { IfErr result (λ refusal. refusal ≡ Refusal.Enomem) }
 {
     let Ok(answers) = AnswerLog::with_room(state.alloc, room as usize) else {
         return Err(Refusal::Enomem);
@@ -84,10 +84,10 @@ pub fn seal_with_room<A: Allocator + Copy>(
 /// Goes back to the entries and the answers that were put aside. No entry may have been pushed
 /// since.
 pub fn unseal<A: Allocator + Copy>(state: &mut State<A>, unsealed: Unsealed<A>)
-    requires read { AreTables state.old }
-    requires begins { past state.old ≡ Begin (seal (past_of unsealed.stored)) }
-    requires follows { Follows (past_of unsealed.stored) }
-    requires told { map logged unsealed.answers.items ≡ log (past_of unsealed.stored) }
+    requires tables { AreTables state.old }
+    requires begins { history_of state.old ≡ Begin (seal (stored_history unsealed.stored)) }
+    requires follows { Follows (stored_history unsealed.stored) }
+    requires replies { map log_entry unsealed.answers.items ≡ log (stored_history unsealed.stored) }
     ensures stored { state.new.stored ≡ unsealed.stored }
     ensures answers { state.new.answers ≡ unsealed.answers }
     ensures read { AreTables state.new }

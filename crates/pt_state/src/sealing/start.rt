@@ -1,9 +1,9 @@
 //! The Start that is copied from a whole state.
 
 ghost use Rattle.std.specs.Prelude.{◌≡◌, ◌≤◌, IfOk};
-ghost use Rattle.pt_model.specs.StartRows.{reads_of, rows_of};
+ghost use Rattle.pt_model.specs.StartRows.{start_of_rows, rows_of_start};
 ghost use Rattle.pt_model.specs.Seals.{seal};
-ghost use Rattle.pt_state.specs.Adds.{past};
+ghost use Rattle.pt_state.specs.Adds.{history_of};
 ghost use Rattle.pt_state.specs.Reads.{AreTables};
 
 use crate::sealing::calls::copy_calls;
@@ -18,7 +18,8 @@ use std::alloc::{AllocError, Allocator};
 /// The state stays as it is. Returns an error if a growth is refused.
 pub fn start_of<A: Allocator + Copy>(state: &State<A>) -> Result<Start<A>, AllocError>
     requires { AreTables state.now }
-    ensures reads { IfOk result (λ start. reads_of (rows_of start) ≡ seal (past state.now)) }
+    ensures reads { IfOk result (λ start. start_of_rows (rows_of_start start)
+        ≡ seal (history_of state.now)) }
     ensures counted { IfOk result (λ start. start.outer ≤ start.at) }
 {
     Ok(Start {

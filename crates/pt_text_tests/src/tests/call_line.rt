@@ -3,7 +3,7 @@ use pt_lines::{CallLine, Cut, read_call};
 use pt_types::{Call, Clock, Deadline, Moment, MutexKind, Name, Priority, Refusal};
 use std::test::Fail;
 
-fn asks(text: &[u8], call: Call) -> bool {
+fn is_call(text: &[u8], call: Call) -> bool {
     read_call(text) == Ok(CallLine::Ask(call))
 }
 
@@ -12,23 +12,23 @@ fn are_mutex_calls_read() -> bool {
     let (Some(m), Some(late)) = (Name::new(b"m"), Deadline::new(5, 9_999_999_999)) else {
         return false;
     };
-    asks(b"lock m", Call::Lock(m.copied()))
-        && asks(b"trylock m", Call::Trylock(m.copied()))
-        && asks(
+    is_call(b"lock m", Call::Lock(m.copied()))
+        && is_call(b"trylock m", Call::Trylock(m.copied()))
+        && is_call(
             b"timedlock m 5 9999999999",
             Call::Timedlock(m.copied(), late),
         )
-        && asks(
+        && is_call(
             b"clocklock m real 5 9999999999",
             Call::Clocklock(m.copied(), Clock::Real, late),
         )
-        && asks(
+        && is_call(
             b"clocklock m mono 5 9999999999",
             Call::Clocklock(m.copied(), Clock::Mono, late),
         )
-        && asks(b"unlock m", Call::Unlock(m.copied()))
-        && asks(b"consistent m", Call::Consistent(m.copied()))
-        && asks(b"mutex-destroy m", Call::MutexDestroy(m.copied()))
+        && is_call(b"unlock m", Call::Unlock(m.copied()))
+        && is_call(b"consistent m", Call::Consistent(m.copied()))
+        && is_call(b"mutex-destroy m", Call::MutexDestroy(m.copied()))
 }
 
 // Returns true if the inits of a mutex are read.
@@ -52,7 +52,7 @@ fn are_inits_read() -> bool {
         ),
     ];
     for (text, kind, robust) in table {
-        if !asks(text, Call::MutexInit(m.copied(), kind, robust)) {
+        if !is_call(text, Call::MutexInit(m.copied(), kind, robust)) {
             return false;
         }
     }
@@ -64,29 +64,29 @@ fn are_rwlock_calls_read() -> bool {
     let (Some(r), Some(due)) = (Name::new(b"r"), Deadline::new(0, 1_000_000_000)) else {
         return false;
     };
-    asks(b"rwlock-init r", Call::RwlockInit(r.copied()))
-        && asks(b"rdlock r", Call::Rdlock(r.copied()))
-        && asks(b"tryrdlock r", Call::Tryrdlock(r.copied()))
-        && asks(
+    is_call(b"rwlock-init r", Call::RwlockInit(r.copied()))
+        && is_call(b"rdlock r", Call::Rdlock(r.copied()))
+        && is_call(b"tryrdlock r", Call::Tryrdlock(r.copied()))
+        && is_call(
             b"timedrdlock r 0 1000000000",
             Call::Timedrdlock(r.copied(), due),
         )
-        && asks(
+        && is_call(
             b"clockrdlock r mono 0 1000000000",
             Call::Clockrdlock(r.copied(), Clock::Mono, due),
         )
-        && asks(b"wrlock r", Call::Wrlock(r.copied()))
-        && asks(b"trywrlock r", Call::Trywrlock(r.copied()))
-        && asks(
+        && is_call(b"wrlock r", Call::Wrlock(r.copied()))
+        && is_call(b"trywrlock r", Call::Trywrlock(r.copied()))
+        && is_call(
             b"timedwrlock r 0 1000000000",
             Call::Timedwrlock(r.copied(), due),
         )
-        && asks(
+        && is_call(
             b"clockwrlock r real 0 1000000000",
             Call::Clockwrlock(r.copied(), Clock::Real, due),
         )
-        && asks(b"rwunlock r", Call::Rwunlock(r.copied()))
-        && asks(b"rwlock-destroy r", Call::RwlockDestroy(r.copied()))
+        && is_call(b"rwunlock r", Call::Rwunlock(r.copied()))
+        && is_call(b"rwlock-destroy r", Call::RwlockDestroy(r.copied()))
 }
 
 // Returns true if each wait at a condition is read.
@@ -94,16 +94,16 @@ fn are_waits_read(c: &Name, m: &Name) -> bool {
     let Some(due) = Deadline::new(9_999_999_999, 7) else {
         return false;
     };
-    asks(b"wait c m", Call::Wait(c.copied(), m.copied()))
-        && asks(
+    is_call(b"wait c m", Call::Wait(c.copied(), m.copied()))
+        && is_call(
             b"timedwait c m 9999999999 7",
             Call::Timedwait(c.copied(), m.copied(), due),
         )
-        && asks(
+        && is_call(
             b"clockwait c m real 9999999999 7",
             Call::Clockwait(c.copied(), m.copied(), Clock::Real, due),
         )
-        && asks(
+        && is_call(
             b"clockwait c m mono 9999999999 7",
             Call::Clockwait(c.copied(), m.copied(), Clock::Mono, due),
         )
@@ -115,17 +115,17 @@ fn are_other_calls_read() -> bool {
         return false;
     };
     are_waits_read(&c, &m)
-        && asks(b"cond-init c", Call::CondInit(c.copied()))
-        && asks(b"cond-destroy c", Call::CondDestroy(c.copied()))
-        && asks(b"signal c", Call::Signal(c.copied()))
-        && asks(b"broadcast c", Call::Broadcast(c.copied()))
-        && asks(
+        && is_call(b"cond-init c", Call::CondInit(c.copied()))
+        && is_call(b"cond-destroy c", Call::CondDestroy(c.copied()))
+        && is_call(b"signal c", Call::Signal(c.copied()))
+        && is_call(b"broadcast c", Call::Broadcast(c.copied()))
+        && is_call(
             b"barrier-init c 9999999999",
             Call::BarrierInit(c.copied(), 9_999_999_999),
         )
-        && asks(b"barrier-init c 0", Call::BarrierInit(c.copied(), 0))
-        && asks(b"bwait c", Call::Bwait(c.copied()))
-        && asks(b"barrier-destroy c", Call::BarrierDestroy(c.copied()))
+        && is_call(b"barrier-init c 0", Call::BarrierInit(c.copied(), 0))
+        && is_call(b"bwait c", Call::Bwait(c.copied()))
+        && is_call(b"barrier-destroy c", Call::BarrierDestroy(c.copied()))
 }
 
 #[test]
@@ -175,15 +175,15 @@ fn is_longest_read() -> bool {
         return false;
     };
     let call = Call::Clockwait(name.copied(), name, Clock::Mono, due);
-    LONGEST.len() == 102 && asks(LONGEST, call)
+    LONGEST.len() == 102 && is_call(LONGEST, call)
 }
 
 // Returns true if names of 1 to 32 bytes are read, and no others.
 fn are_names_limited() -> bool {
     let mut text = [b'x'; 38];
     text[..5].copy_from_slice(b"lock ");
-    for (count, known) in [(0, false), (1, true), (32, true), (33, false)] {
-        if read_call(&text[..5 + count]).is_ok() != known {
+    for (count, valid) in [(0, false), (1, true), (32, true), (33, false)] {
+        if read_call(&text[..5 + count]).is_ok() != valid {
             return false;
         }
     }

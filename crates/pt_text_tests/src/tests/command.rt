@@ -12,7 +12,7 @@ fn exit_of(alloc: Global, words: &[&str]) -> Result<i32, Fail> {
 }
 
 // Returns true if these words give the exit statuses of the table.
-fn are_statuses_told(alloc: Global) -> Result<bool, Fail> {
+fn are_statuses_given(alloc: Global) -> Result<bool, Fail> {
     let table: [(&[&str], i32); 12] = [
         (&["ptserver", "script"], 0),
         (&["ptserver", "explain"], 0),
@@ -36,7 +36,7 @@ fn are_statuses_told(alloc: Global) -> Result<bool, Fail> {
 }
 
 // Returns true if these options of `serve` give the exit statuses of the table.
-fn are_services_told(alloc: Global) -> Result<bool, Fail> {
+fn are_services_parsed(alloc: Global) -> Result<bool, Fail> {
     let table: [(&[&str], i32); 7] = [
         (&["--socket", "p"], 0),
         (&[], 2),
@@ -58,12 +58,12 @@ fn are_services_told(alloc: Global) -> Result<bool, Fail> {
 
 #[test]
 fn command_lines(rt: HostRuntime) -> Result<(), Fail> {
-    assert!(rt; are_statuses_told(rt.alloc())?);
+    assert!(rt; are_statuses_given(rt.alloc())?);
     Ok(())
 }
 
 #[test]
 fn service_lines(rt: HostRuntime) -> Result<(), Fail> {
-    assert!(rt; are_services_told(rt.alloc())?);
+    assert!(rt; are_services_parsed(rt.alloc())?);
     Ok(())
 }

@@ -72,12 +72,12 @@ fn is_line_given(alloc: Global, count: usize, is_long: bool) -> Result<bool, Fai
 {
     let mut bytes = [b'x'; 10_008];
     bytes[count..count + 8].copy_from_slice(b"\nlock m\n");
-    let mut shown = [b'x'; 10_008];
-    shown[count..count + 8].copy_from_slice(b"|lock m|");
+    let mut marked = [b'x'; 10_008];
+    marked[count..count + 8].copy_from_slice(b"|lock m|");
     let expected = if is_long {
         b"LONG|lock m|".as_slice()
     } else {
-        &shown[..count + 8]
+        &marked[..count + 8]
     };
     is_given_at_each_cut(alloc, &bytes[..count + 8], expected)
 }
@@ -122,11 +122,11 @@ fn count_long_by_bytes(cutter: &mut Cutter, count: usize) -> Result<usize, Fail>
 // Returns true if lines of these lengths, fed byte by byte, are reported as too long this often.
 fn are_long_counted(alloc: Global) -> Result<bool, Fail> {
     for (count, long) in [(128, 0), (129, 1), (130, 1), (10_000, 1)] {
-        let told = lend(
+        let long_count = lend(
             Cutter::new(alloc),
             |cutter| count_long_by_bytes(cutter, count),
         );
-        if told? != long {
+        if long_count? != long {
             return Ok(false);
         }
     }
@@ -134,13 +134,13 @@ fn are_long_counted(alloc: Global) -> Result<bool, Fail> {
 }
 
 // Returns true if a line is too long as soon as its 129th byte comes, and is reported once.
-fn is_long_told_once(cutter: &mut Cutter) -> Result<bool, Fail> {
+fn is_long_given_once(cutter: &mut Cutter) -> Result<bool, Fail> {
     cutter.feed(&[b'x'; 128])?;
     let early = cutter.next_line();
     cutter.feed(b"x")?;
     let long = cutter.next_line();
-    let again = cutter.next_line();
-    Ok(early.is_none() && long == Some(Cut::Long) && again.is_none())
+    let later = cutter.next_line();
+    Ok(early.is_none() && long == Some(Cut::Long) && later.is_none())
 }
 
 // Returns true if nothing is left of a line that was too long when the input ends.
@@ -160,7 +160,7 @@ fn long_comes_once_with_the_129th_byte(rt: HostRuntime) -> Result<(), Fail> {
     let alloc = rt.alloc();
     assert!(rt;
         are_long_counted(alloc)?
-            && lend(Cutter::new(alloc), is_long_told_once)?
+            && lend(Cutter::new(alloc), is_long_given_once)?
             && is_nothing_left(alloc)?
     );
     Ok(())
@@ -209,7 +209,7 @@ fn lines_of_a_connection_are_read(rt: HostRuntime) -> Result<(), Fail> {
 
 // Returns true if a cutter never takes more than 65,536 bytes of its heap while a piece is fed this
 // many times.
-fn stays_small(heap: &LocalHeap, piece: &[u8], times: usize) -> Result<bool, Fail> {
+fn stays_bounded(heap: &LocalHeap, piece: &[u8], times: usize) -> Result<bool, Fail> {
     lend(Cutter::new(heap), |cutter| {
         for _ in 0..times {
             count_long(cutter, piece)?;
@@ -221,10 +221,10 @@ fn stays_small(heap: &LocalHeap, piece: &[u8], times: usize) -> Result<bool, Fai
     })
 }
 
-// Does what `stays_small` does, with a heap of 1 MB.
+// Does what `stays_bounded` does, with a heap of 1 MB.
 fn takes_little_memory(alloc: Global, piece: &[u8], times: usize) -> Result<bool, Fail> {
     let heap = LocalHeap::new(alloc, 1 << 20)?;
-    stays_small(&heap, piece, times)
+    stays_bounded(&heap, piece, times)
 }
 
 #[test]

@@ -16,7 +16,7 @@ fn put<W: Sink>(writer: &mut W, bytes: &[u8]) -> io::Result<()>
     requires { W.failures writer.old ≡ 0 }
     ensures ok { OnOk result
         ((W.taken writer.new ≡ W.taken writer.old ++ bytes.now) × (W.failures writer.new ≡ 0)) }
-    ensures err { OnErr result
+    ensures unchanged { OnErr result
         (IsPrefix (W.taken writer.new) (W.taken writer.old ++ bytes.now)) }
 {
     let mut rest = bytes;
@@ -36,7 +36,7 @@ fn copy<R: Source, W: Sink>(reader: &mut R, writer: &mut W) -> io::Result<()>
     requires working { (R.failures reader.old ≡ 0) × (W.failures writer.old ≡ 0) }
     ensures ok { OnOk result
         ((W.taken writer.new ≡ R.given reader.new) × (R.ended reader.new ≡ true)) }
-    ensures err { OnErr result (IsPrefix (W.taken writer.new) (R.given reader.new)) }
+    ensures unchanged { OnErr result (IsPrefix (W.taken writer.new) (R.given reader.new)) }
 {
     let mut piece = [0u8; 5];
     for _ in 0..u64::MAX {
@@ -213,7 +213,7 @@ fn is_written(alloc: Global, times: u32, kind: ErrorKind, fails: bool) -> bool {
 }
 
 // Returns true if only interruptions are tried again, up to sixteen times.
-fn are_tried_again(alloc: Global) -> Result<bool, Fail> {
+fn are_retried(alloc: Global) -> Result<bool, Fail> {
     for (kind, times, fails) in [
         (ErrorKind::Interrupted, 0, false),
         (ErrorKind::Interrupted, 1, false),
@@ -230,7 +230,7 @@ fn are_tried_again(alloc: Global) -> Result<bool, Fail> {
 
 #[test]
 fn only_interruptions_are_tried_again_and_sixteen_times(rt: HostRuntime) -> Result<(), Fail> {
-    assert!(rt; are_tried_again(rt.alloc())?);
+    assert!(rt; are_retried(rt.alloc())?);
     Ok(())
 }
 

@@ -1,6 +1,6 @@
 ghost use Rattle.std.specs.Prelude.{◌≡◌, ◌<◌, ◌≤◌, ◌^◌, [], false, IfOk};
-ghost use Rattle.pt_model.specs.Starts.{nothing};
-ghost use Rattle.pt_legal.specs.Cores.{shown};
+ghost use Rattle.pt_model.specs.Starts.{empty_start};
+ghost use Rattle.pt_legal.specs.Cores.{core_state};
 ghost use Rattle.pt_engine.specs.Scripts.{entries_between_seals};
 
 use super::lend;
@@ -18,7 +18,7 @@ mod faults;
 const TWO_CLIENTS: &[u8] = b"A hello 10\nB hello 20\nA mutex-init m normal stalled\n\
     A lock m\nB lock m\nA unlock m\n";
 
-const TWO_CLIENTS_TOLD: &[u8] = b"A 1 0\nB 1 0\nA 2 0\nA 3 0\nA 4 0\nB 2 0\n";
+const TWO_CLIENTS_REPLIES: &[u8] = b"A 1 0\nB 1 0\nA 2 0\nA 3 0\nA 4 0\nB 2 0\n";
 
 // Returns a device that gives these bytes, up to `step` of them per call, and fails at a call.
 fn reader<A: Allocator + Copy>(
@@ -36,8 +36,8 @@ fn reader<A: Allocator + Copy>(
 
 // Returns the core of a script.
 fn core<A: Allocator + Copy>(alloc: A) -> Result<Core<A>, ScriptFault>
-    ensures { IfOk result (λ core. shown core
-        ≡ record { start = nothing; entries = []; limit = entries_between_seals }) }
+    ensures { IfOk result (λ core. core_state core
+        ≡ record { start = empty_start; entries = []; limit = entries_between_seals }) }
 {
     match Core::with_limit(alloc, ENTRIES_BETWEEN_SEALS) {
         Ok(core) => Ok(core),
@@ -68,7 +68,7 @@ fn play_within<R: Source, W: Sink, A: Allocator + Copy>(
     requires fresh { (R.given reader.old ≡ []) × (W.taken writer.old ≡ [])
         × (R.ended reader.old ≡ false) }
     requires working { (R.failures reader.old ≡ 0) × (W.failures writer.old ≡ 0) }
-    requires few { reads ≤ 2 ^ 40 }
+    requires within { reads ≤ 2 ^ 40 }
 {
     script_within(core(alloc)?, alloc, reads, reader, writer)
 }
@@ -86,7 +86,7 @@ fn tell(alloc: Global, bytes: &[u8], step: usize, writer: &mut Faulty) -> Result
 }
 
 // Returns what is written for this input, which is read to its end.
-fn told(alloc: Global, bytes: &[u8], step: usize) -> Result<(Faulty, ScriptEnd), Fail>
+fn run_script(alloc: Global, bytes: &[u8], step: usize) -> Result<(Faulty, ScriptEnd), Fail>
     requires { 0 < step }
 {
     let mut writer = Faulty::new(Vec::new(alloc), 4096, 0);
@@ -97,8 +97,12 @@ fn told(alloc: Global, bytes: &[u8], step: usize) -> Result<(Faulty, ScriptEnd),
 #[test]
 fn the_answer_comes_before_the_grant(rt: HostRuntime) -> Result<(), Fail> {
     for step in [1, 2, 7, 4096] {
-        let (writer, end) = told(rt.alloc(), TWO_CLIENTS, step)?;
-        assert_eq!(rt; writer.written(), TWO_CLIENTS_TOLD, "in pieces of {step}");
+        let (writer, end) = run_script(rt.alloc(), TWO_CLIENTS, step)?;
+        assert_eq!(rt;
+            writer.written(),
+            TWO_CLIENTS_REPLIES,
+            "in pieces of {step}"
+        );
         assert_eq!(rt; end.lines, 6);
         assert_eq!(rt; end.entries, 8);
     }
@@ -126,7 +130,7 @@ fn refused_lines_are_answered_and_counted(rt: HostRuntime) -> Result<(), Fail> {
 
 fn play_refused_lines(rt: &impl Abort, alloc: Global, input: &[u8]) -> Result<(), Fail> {
     for step in [1, 4096] {
-        let (writer, end) = told(alloc, input, step)?;
+        let (writer, end) = run_script(alloc, input, step)?;
         assert_eq!(rt;
             writer.written(),
             b"A 1 NOHELLO\n? 1 LONG\nA 2 SYNTAX\nA 3 0\n\
@@ -142,7 +146,7 @@ fn play_refused_lines(rt: &impl Abort, alloc: Global, input: &[u8]) -> Result<()
 
 #[test]
 fn a_dead_name_stays_dead_and_a_refused_hello_may_come_again(rt: HostRuntime) -> Result<(), Fail> {
-    let (writer, _) = told(
+    let (writer, _) = run_script(
         rt.alloc(),
         b"A hello 0\nA hello 1\nA die\nA hello 1\nA\nA die\n* moment 1 0\n* lock m\n",
         4096,
@@ -172,7 +176,7 @@ fn many_moments(alloc: Global, count: usize) -> Result<Vec<u8>, Fail> {
 #[test]
 fn a_call_that_waits_past_a_seal_is_answered(rt: HostRuntime) -> Result<(), Fail> {
     lend(many_moments(rt.alloc(), 70000)?, |input| {
-        let (writer, end) = told(rt.alloc(), input.as_slice(), 4096)?;
+        let (writer, end) = run_script(rt.alloc(), input.as_slice(), 4096)?;
         assert_eq!(rt;
             writer.written(),
             b"A 1 0\nB 1 0\nA 2 0\nA 3 0\nB 2 EOWNERDEAD\n".as_slice()
@@ -191,7 +195,11 @@ fn a_failing_read_leaves_the_answers_of_the_lines_before(rt: HostRuntime) -> Res
         let ended = play(alloc, &mut reader, &mut writer);
         assert!(rt; matches!(ended, Err(ScriptFault::Read)), "at {fails_at}");
         let due = faults::due(fails_at as usize - 1);
-        assert_eq!(rt; writer.written(), &TWO_CLIENTS_TOLD[..due], "at {fails_at}");
+        assert_eq!(rt;
+            writer.written(),
+            &TWO_CLIENTS_REPLIES[..due],
+            "at {fails_at}"
+        );
     }
     Ok(())
 }
@@ -205,7 +213,7 @@ fn a_failing_write_leaves_a_prefix(rt: HostRuntime) -> Result<(), Fail> {
         let ended = play(alloc, &mut reader, &mut writer);
         assert!(rt; matches!(ended, Err(ScriptFault::Write)), "at {fails_at}");
         assert!(rt;
-            TWO_CLIENTS_TOLD.starts_with(writer.written()),
+            TWO_CLIENTS_REPLIES.starts_with(writer.written()),
             "at {fails_at}"
         );
         assert_eq!(rt; writer.written().len() as u64, 3 * (fails_at - 1));
@@ -248,7 +256,7 @@ fn a_refused_growth_is_answered_or_ends_the_script(rt: HostRuntime) -> Result<()
         let mut reader = reader(alloc, TWO_CLIENTS, 4096, 0)?;
         let mut writer = Faulty::new(Vec::new(alloc), 4096, 0);
         match play(heap, &mut reader, &mut writer) {
-            Ok(_) => Ok(writer.written() != TWO_CLIENTS_TOLD),
+            Ok(_) => Ok(writer.written() != TWO_CLIENTS_REPLIES),
             Err(fault) => {
                 assert_eq!(rt; fault, ScriptFault::Memory);
                 assert!(rt; writer.written().is_empty());
@@ -261,27 +269,27 @@ fn a_refused_growth_is_answered_or_ends_the_script(rt: HostRuntime) -> Result<()
 }
 
 // The script of two clients, in which the mutex is made by two lines.
-const MADE_BY_TWO_LINES: &[u8] = b"A hello 10\nB hello 20\nA mutex-init m normal stalled\n\
+const TWO_INIT_LINES: &[u8] = b"A hello 10\nB hello 20\nA mutex-init m normal stalled\n\
     A mutex-init m normal stalled\nA lock m\nB lock m\nA unlock m\n";
 
 // What is written for it if a growth is refused at the first of them.
-const MADE_BY_THE_SECOND: &[u8] = b"A 1 0\nB 1 0\nA 2 ENOMEM\nA 3 0\nA 4 0\nA 5 0\nB 2 0\n";
+const SECOND_INIT_REPLIES: &[u8] = b"A 1 0\nB 1 0\nA 2 ENOMEM\nA 3 0\nA 4 0\nA 5 0\nB 2 0\n";
 
 #[test]
 fn a_mutex_whose_growth_was_refused_is_made_by_the_next_line(rt: HostRuntime) -> Result<(), Fail> {
     let alloc = rt.alloc();
-    let mut made: u64 = 0;
+    let mut completed: u64 = 0;
     let refused = refuse_each(alloc, 1000, |heap| -> Result<bool, Fail> {
-        let mut reader = reader(alloc, MADE_BY_TWO_LINES, 4096, 0)?;
+        let mut reader = reader(alloc, TWO_INIT_LINES, 4096, 0)?;
         let mut writer = Faulty::new(Vec::new(alloc), 4096, 0);
         let ended = play(heap, &mut reader, &mut writer);
-        if ended.is_ok() && writer.written() == MADE_BY_THE_SECOND {
-            made = made.saturating_add(1);
+        if ended.is_ok() && writer.written() == SECOND_INIT_REPLIES {
+            completed = completed.saturating_add(1);
         }
         Ok(false)
     })?;
     assert!(rt; refused.is_some());
-    assert!(rt; made > 1);
+    assert!(rt; completed > 1);
     Ok(())
 }
 

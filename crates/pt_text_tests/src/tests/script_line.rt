@@ -62,14 +62,14 @@ fn is_read(text: &[u8], who: &[u8], body: ScriptBody) -> bool {
 
 // Returns true if a call, a hello and a die are read with their clients.
 fn are_client_lines_read() -> bool {
-    let (Some(m), Some(most)) = (Name::new(b"m"), Priority::new(99)) else {
+    let (Some(m), Some(max)) = (Name::new(b"m"), Priority::new(99)) else {
         return false;
     };
     is_read(
         b"abcdEF90 lock m",
         b"abcdEF90",
         ScriptBody::Ask(Call::Lock(m)),
-    ) && is_read(b"0 hello 99", b"0", ScriptBody::Hello(most))
+    ) && is_read(b"0 hello 99", b"0", ScriptBody::Hello(max))
         && ClientName::new(b"0").map(Who::Named) == Some(read_script_line(b"0 hello 99").who)
         && is_read(b"A die", b"A", ScriptBody::Die)
 }
@@ -97,7 +97,7 @@ fn script_lines_of_clients_and_the_clocks(rt: HostRuntime) {
 }
 
 // Returns true if texts are accepted as clients' names exactly as the table says.
-fn are_client_names_known() -> bool {
+fn are_client_names_read() -> bool {
     let table: [(&[u8], bool); 8] = [
         (b"", false),
         (b"Z", true),
@@ -108,8 +108,8 @@ fn are_client_names_known() -> bool {
         (b"*", false),
         (b"\xc3\xa4", false),
     ];
-    for (name, known) in table {
-        if ClientName::new(name).is_some() != known {
+    for (name, valid) in table {
+        if ClientName::new(name).is_some() != valid {
             return false;
         }
     }
@@ -118,7 +118,7 @@ fn are_client_names_known() -> bool {
 
 #[test]
 fn clients_of_1_to_8_letters_or_digits(rt: HostRuntime) {
-    assert!(rt; are_client_names_known());
+    assert!(rt; are_client_names_read());
 }
 
 #[test]

@@ -4,8 +4,8 @@ use Rattle.std.specs.Option.{option_map}
 use Rattle.pt_chains.specs.Boxes.{queue_by, IsSame}
 use Rattle.pt_chains.proofs.boxed.join.Goals as goal
 
-pub returns-in-Some-clause-same : goal.returns-in-Some-clause-same
-returns-in-Some-clause-same g c =
+pub returns-in-Some-clause-unchanged : goal.returns-in-Some-clause-unchanged
+returns-in-Some-clause-unchanged g c =
     let box = option_map (λ x. x.value) c.args.boxed.now in
     subst (λ h. IfSome c.put_lone.new.boxed (λ b.
     IsSame (queue_by box h c.args.tail c.args.count c.args.writer c.args.p) b.value))

@@ -5,8 +5,8 @@ use Rattle.pt_chains.specs.Chains.{node_in, entry_at}
 use Rattle.pt_chains.proofs.SlotLemmas.{slot-held, slot-written, slot-alike}
 use Rattle.pt_chains.proofs.nodes.set_next.Goals as goal
 
-pub returns-clause-there : goal.returns-clause-there
-returns-clause-there g c = λ n.
+pub returns-clause-exists : goal.returns-clause-exists
+returns-clause-exists g c = λ n.
     let slots = c.args.nodes.now.slots in
     let old = c.unwrap.result.now in
     let new : Node =

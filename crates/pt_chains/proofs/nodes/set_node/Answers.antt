@@ -5,8 +5,8 @@ use Rattle.pt_chains.specs.Chains.{entry_at}
 use Rattle.pt_chains.proofs.SlotLemmas.{slot-written, slot-alike}
 use Rattle.pt_chains.proofs.nodes.set_node.Goals as goal
 
-pub returns-clause-there : goal.returns-clause-there
-returns-clause-there g c = λ n.
+pub returns-clause-exists : goal.returns-clause-exists
+returns-clause-exists g c = λ n.
     slot-alike is_some c.args.nodes.now.slots c.args.node
     c.get.result n c.args.value c.get.ensures c.requires (sym c.requires)
 

@@ -1,6 +1,6 @@
 use Rattle.std.proofs.Common.{◌∙◌, false, ap, refl, sym, nat_eq}
 use Rattle.std.specs.Map.{lookup}
-use Rattle.pt_chains.specs.Opened.{made_by}
+use Rattle.pt_chains.specs.OpenQueues.{existing_by}
 use Rattle.pt_chains.specs.Rows.{rows_of}
 use Rattle.pt_chains.proofs.OpenedLemmas.{unmade-by}
 use Rattle.pt_chains.proofs.OpenedRows.{writer-by, unnoted}
@@ -8,7 +8,7 @@ use Rattle.pt_chains.proofs.queues.has_writer_from.Goals as goal
 
 pub returns-then-not-is_open-clause-queue : goal.returns-then-not-is_open-clause-queue
 returns-then-not-is_open-clause-queue g c = λ queue is.
-    let os = made_by c.queues.inside.log.items in
+    let os = existing_by c.queues.inside.log.items in
     let rows = rows_of c.queues.inside.rows in
     let off = sym c.is_open.ensures ∙ c.if-not-is_open.true in
     writer-by os rows _ _ _ c.args.object c.queues.invariant c.args.p false (λ n. refl)
@@ -18,12 +18,12 @@ returns-then-not-is_open-clause-queue g c = λ queue is.
 pub returns-clause-none : goal.returns-clause-none
 returns-clause-none g c = λ none.
     c.has_writer_from.ensures.none
-    (unmade-by (made_by c.queues.inside.log.items) (rows_of c.queues.inside.rows) _ _ _
+    (unmade-by (existing_by c.queues.inside.log.items) (rows_of c.queues.inside.rows) _ _ _
     c.args.object c.queues.invariant (ap (lookup (nat_eq c.args.object)) c.queues.view_is ∙ none))
 
 pub returns-clause-queue : goal.returns-clause-queue
 returns-clause-queue g c = λ queue is.
-    writer-by (made_by c.queues.inside.log.items) (rows_of c.queues.inside.rows) _ _ _
+    writer-by (existing_by c.queues.inside.log.items) (rows_of c.queues.inside.rows) _ _ _
     c.args.object c.queues.invariant c.args.p c.has_writer_from.result
     c.has_writer_from.ensures.none c.has_writer_from.ensures.queue queue
     (ap (lookup (nat_eq c.args.object)) c.queues.view_is ∙ is)

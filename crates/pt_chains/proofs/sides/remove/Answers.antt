@@ -13,10 +13,10 @@ pub unwrap-slot-requires : goal.unwrap-slot-requires
 unwrap-slot-requires g c =
     let queues = c.args.queues.now in
     ap is_some c.slot_from.ensures
-    ∙ row-placed queues.places queues.slots c.args.object c.requires.there
+    ∙ row-placed queues.places queues.slots c.args.object c.requires.exists
 
-pub take_out-requires-clause-there : goal.take_out-requires-clause-there
-take_out-requires-clause-there g c =
+pub take_out-requires-clause-exists : goal.take_out-requires-clause-exists
+take_out-requires-clause-exists g c =
     (c.args.object, sym c.slot_from.ensures ∙ c.unwrap-slot.ensures)
 
 pub take_out-requires-clause-waits : goal.take_out-requires-clause-waits
@@ -24,7 +24,7 @@ take_out-requires-clause-waits g c =
     let queues = c.args.queues.now in
     subst (λ f. IfSome f (λ q. 1 ≤ slice_index (side_of c.args.writer q).counts c.args.p))
     (placed-row queues.places queues.slots c.args.object c.unwrap-slot.result
-    (sym c.slot_from.ensures ∙ c.unwrap-slot.ensures)) c.requires.stands
+    (sym c.slot_from.ensures ∙ c.unwrap-slot.ensures)) c.requires.counted
 
 pub take_out-requires-clause-len : goal.take_out-requires-clause-len
 take_out-requires-clause-len g c =

@@ -6,8 +6,8 @@ pub returns-in_err-new_box-clause-len : goal.returns-in_err-new_box-clause-len
 returns-in_err-new_box-clause-len g c =
     if-err c.from_residual-in_err-new_box.result _ c.from_residual-in_err-new_box.ensures.0
 
-pub returns-in_err-reserve-clause-still : goal.returns-in_err-reserve-clause-still
-returns-in_err-reserve-clause-still g c =
+pub returns-in_err-reserve-clause-unchanged : goal.returns-in_err-reserve-clause-unchanged
+returns-in_err-reserve-clause-unchanged g c =
     on-err c.from_residual.result _ c.reserve.ensures.len
 
 pub returns-clause-empty : goal.returns-clause-empty

@@ -3,12 +3,12 @@ use Rattle.std.specs.Prelude.{option_map}
 use Rattle.pt_model.specs.Rwlocks.{rwlock_view}
 use Rattle.pt_records.proofs.LockViews.{view-kept}
 use Rattle.pt_readable.specs.Reading.{reported}
-use Rattle.pt_state.specs.Adds.{past}
+use Rattle.pt_state.specs.Adds.{history_of}
 use Rattle.pt_core.proofs.reading.rwlock.Goals as goal
 
 pub returns-in-Some : goal.returns-in-Some
 returns-in-Some g c =
-    let h = past c.args.state.now in
+    let h = history_of c.args.state.now in
     let seen =
     view-kept h c.requires.follows c.in-Some.field-0-0 c.in-Some.lock.now c.in-Some.ensures.lock
     c.args.c in

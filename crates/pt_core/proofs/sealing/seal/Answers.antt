@@ -1,8 +1,8 @@
 use Rattle.std.proofs.Common.{sym, ap, ◌∙◌, subst, arith}
 use Rattle.pt_history.proofs.Places.{place_of_next}
-use Rattle.pt_core.specs.Stores.{seen}
-use Rattle.pt_core.specs.Wholes.{IsWhole}
-use Rattle.pt_core.proofs.SealedCores.{settled, whole-sealed, kept-sealed, places-lack, places-left}
+use Rattle.pt_core.specs.Stores.{store_view}
+use Rattle.pt_core.specs.ValidStates.{IsValidState}
+use Rattle.pt_core.proofs.SealedCores.{settled, whole-core_after_seal, store_core-core_after_seal, places-lack, places-left}
 use Rattle.pt_core.proofs.SealedCores.{refused-full, refused-memory}
 use Rattle.pt_core.proofs.sealing.seal.Goals as goal
 
@@ -15,16 +15,17 @@ seal-requires-clause-places g c =
     let left = places-left c.len-at.result (sym c.in_default.is ∙ c.refusal_of_seal.ensures) in
     omega (arith, next, c.len-at.ensures, left)
 
-pub returns-in-Ok-clause-whole : goal.returns-in-Ok-clause-whole
-returns-in-Ok-clause-whole g c =
-    whole-sealed c.args.body.now c.requires c.seal.new.self c.in-Ok.ensures.ok
+pub returns-in-Ok-clause-valid : goal.returns-in-Ok-clause-valid
+returns-in-Ok-clause-valid g c =
+    whole-core_after_seal c.args.body.now c.requires c.seal.new.self c.in-Ok.ensures.ok
 
 pub returns-in-Ok-clause-ok : goal.returns-in-Ok-clause-ok
 returns-in-Ok-clause-ok g c =
     let next = place_of_next c.args.body.now.stored in
     record {
       next = c.len-at.ensures ∙ sym next;
-      core = kept-sealed c.args.body.now c.requires c.seal.new.self c.in-Ok.ensures.ok;
+      core = store_core-core_after_seal c.args.body.now c.requires c.seal.new.self
+          c.in-Ok.ensures.ok;
       within = places-left c.len-at.result (sym c.in_default.is ∙ c.refusal_of_seal.ensures);
     }
 
@@ -39,11 +40,11 @@ pub returns-in-Err-clause-err : goal.returns-in-Err-clause-err
 returns-in-Err-clause-err g c =
     let next = place_of_next c.args.body.now.stored in
     let left = places-left c.len-at.result (sym c.in_default.is ∙ c.refusal_of_seal.ensures) in
-    c.in-Err.ensures.reason
+    c.in-Err.ensures.err
     ∙ refused-memory c.args.body.now.stored (omega (arith, next, c.len-at.ensures, left))
 
-pub returns-in-Err-clause-whole : goal.returns-in-Err-clause-whole
-returns-in-Err-clause-whole g c = subst IsWhole (sym c.in-Err.ensures.err) c.requires
+pub returns-in-Err-clause-valid : goal.returns-in-Err-clause-valid
+returns-in-Err-clause-valid g c = subst IsValidState (sym c.in-Err.ensures.unchanged) c.requires
 
 pub returns-in-Err-clause-unchanged : goal.returns-in-Err-clause-unchanged
-returns-in-Err-clause-unchanged g c = ap (λ s. seen s.stored) c.in-Err.ensures.err
+returns-in-Err-clause-unchanged g c = ap (λ s. store_view s.stored) c.in-Err.ensures.unchanged

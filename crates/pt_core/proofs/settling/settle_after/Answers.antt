@@ -11,6 +11,6 @@ returns-else-not-rests-clause-settles g c =
       settled = c.requires.rests c.if-not-rests.false;
     }
 
-pub returns-then-not-rests-clause-same : goal.returns-then-not-rests-clause-same
-returns-then-not-rests-clause-same g c = λ rests.
+pub returns-then-not-rests-clause-unchanged : goal.returns-then-not-rests-clause-unchanged
+returns-then-not-rests-clause-unchanged g c = λ rests.
     absurd (false≢true (sym c.if-not-rests.true ∙ rests))

@@ -4,8 +4,8 @@ use Rattle.pt_history.proofs.Places.{place_of_next}
 use Rattle.pt_model.specs.declared.entry.Event.{Event}
 use Rattle.pt_model.specs.declared.entry.Event.TheVariants.{Call}
 use Rattle.pt_model.specs.Histories.{place}
-use Rattle.pt_state.specs.Adds.{past}
-use Rattle.pt_legal.specs.Applying.{IsToldStill, told_at_once}
+use Rattle.pt_state.specs.Adds.{history_of}
+use Rattle.pt_legal.specs.Applying.{KeepsOutcome, outcome_at_once}
 use Rattle.pt_core.proofs.writing.outcome_by_answer.Goals as goal
 
 -- a call whose entry is the last has no answer if it had none as it came
@@ -13,11 +13,11 @@ pub returns-in-Call-None : goal.returns-in-Call-None
 returns-in-Call-None g c =
     let s = c.args.body.now in
     let j = c.args.first in
-    let at : place (past s) ≡ suc j =
+    let at : place (history_of s) ≡ suc j =
     omega (arith, place_of_next s.stored, c.len.ensures, c.if-len-first.true, c.requires.some) in
     let its = Call c.in-Call-None.field-0-0 c.in-Call-None.field-1-0 in
-    let still : IsToldStill its None (past s) j =
-    subst (λ (v : Event). IsToldStill v None (past s) j) c.in-Call-None.is-0
-    (subst (λ (a : Option Outcome). IsToldStill c.args.event.now a (past s) j)
+    let still : KeepsOutcome its None (history_of s) j =
+    subst (λ (v : Event). KeepsOutcome v None (history_of s) j) c.in-Call-None.is-0
+    (subst (λ (a : Option Outcome). KeepsOutcome c.args.event.now a (history_of s) j)
     c.in-Call-None.is-1 c.requires.still) in
-    sym (ap (λ (v : Event). told_at_once v (past s) j) c.in-Call-None.is-0 ∙ still at)
+    sym (ap (λ (v : Event). outcome_at_once v (history_of s) j) c.in-Call-None.is-0 ∙ still at)

@@ -1,5 +1,5 @@
 use Rattle.std.proofs.Common.{◌∙◌, List, ℕ, ap}
-use Rattle.pt_legal.specs.Cores.{shown}
+use Rattle.pt_legal.specs.Cores.{core_state}
 use Rattle.pt_explain.proofs.CallsFound.{followed}
 use Rattle.pt_explain.proofs.entries.follow_reason.Goals as goal
 
@@ -7,7 +7,7 @@ pub returns-clause-words : goal.returns-clause-words
 returns-clause-words g c =
     c.forced_reason.ensures.words
     ∙ ap (λ (r : List ℕ × List ℕ). r.0)
-    (followed (shown (g.C.LegalHistory.seen c.args.core.now)) c.args.place c.args.entry.now
+    (followed (core_state (g.C.LegalHistory.seen c.args.core.now)) c.args.place c.args.entry.now
     c.place_of_call-of.result c.call_at.result c.is_next.result c.place_of_call-of.ensures
     c.call_at.ensures c.is_next.ensures)
 
@@ -15,6 +15,6 @@ pub returns-clause-source : goal.returns-clause-source
 returns-clause-source g c =
     c.forced_reason.ensures.source
     ∙ ap (λ (r : List ℕ × List ℕ). r.1)
-    (followed (shown (g.C.LegalHistory.seen c.args.core.now)) c.args.place c.args.entry.now
+    (followed (core_state (g.C.LegalHistory.seen c.args.core.now)) c.args.place c.args.entry.now
     c.place_of_call-of.result c.call_at.result c.is_next.result c.place_of_call-of.ensures
     c.call_at.ensures c.is_next.ensures)

@@ -1,6 +1,6 @@
 use Rattle.std.proofs.Common.{◌∙◌, ◌++◌, refl, sym, ap, arith}
-use Rattle.pt_legal.specs.Cores.{shown}
-use Rattle.pt_model.proofs.Histories.{place-behind}
+use Rattle.pt_legal.specs.Cores.{core_state}
+use Rattle.pt_model.proofs.Histories.{place-history_since}
 use Rattle.pt_explain.specs.Entries.{entries_from, entry_row, entry_rows}
 use Rattle.pt_explain.specs.Rows.{row}
 use Rattle.pt_entries.specs.EntryTexts.{placed_entry}
@@ -16,11 +16,11 @@ loop-place-init g c = record { since = c.requires; text = refl }
 pub loop-place-preserved : goal.loop-place-preserved
 loop-place-preserved g c =
     let s = g.C.LegalHistory.seen c.args.core.now in
-    let at = (shown s).start.at in
+    let at = (core_state s).start.at in
     let place = c.loop-place.place in
     let before = c.loop-place.out.items in
     let own = c.args.own.now in
-    let t = entry_row (own.words.now, own.source.now) c.args.from (shown s) in
+    let t = entry_row (own.words.now, own.source.now) c.args.from (core_state s) in
     let text = c.args.out.now.items ++ entry_rows t c.args.from (entries_from s c.args.from) in
     let since = c.loop-place.invariant.since in
     let found = c.entry.ensures.since since in
@@ -47,8 +47,8 @@ pub returns-clause-ok : goal.returns-clause-ok
 returns-clause-ok g c =
     let s = g.C.LegalHistory.seen c.args.core.now in
     let own = c.args.own.now in
-    let t = entry_row (own.words.now, own.source.now) c.args.from (shown s) in
-    line_end t (shown s).start.at c.loop-place.place s.entries c.loop-place.out.items
+    let t = entry_row (own.words.now, own.source.now) c.args.from (core_state s) in
+    line_end t (core_state s).start.at c.loop-place.place s.entries c.loop-place.out.items
     (c.args.out.now.items ++ entry_rows t c.args.from (entries_from s c.args.from))
-    (omega (arith, c.len-end.ensures.value, place-behind (shown s).start s.entries))
+    (omega (arith, c.len-end.ensures.value, place-history_since (core_state s).start s.entries))
     c.loop-place.invariant.text

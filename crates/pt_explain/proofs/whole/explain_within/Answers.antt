@@ -1,11 +1,12 @@
 use Rattle.std.proofs.Common.{◌≡◌, ◌-◌, ◌++◌, [], true, ◌∙◌, sym, ap, subst, refl, take, length}
 use Rattle.std.proofs.Common.{inl, inr, append-nil, length-append, arith}
-use Rattle.pt_grammar.specs.Lines.{Held}
-use Rattle.pt_engine.specs.Engines.{known_by}
-use Rattle.pt_script.specs.Texts.{Writing}
-use Rattle.pt_script.specs.Ends.{BeginsScriptText, Course, IsBehind, IsFaultOf, IsReadFault}
+use Rattle.pt_grammar.specs.Lines.{CutterView}
+use Rattle.pt_engine.specs.Engines.{as_script}
+use Rattle.pt_script.specs.Texts.{WriterView}
+use Rattle.pt_script.specs.Ends.{BeginsScriptText, RunView, HasAnsweredLines, IsFaultOf}
+use Rattle.pt_script.specs.Ends.{IsReadFault}
 use Rattle.pt_script.specs.Ends.{IsScriptText}
-use Rattle.pt_script.specs.Stops.{IsEnd, IsStopped}
+use Rattle.pt_script.specs.Stops.{IsEnd, StopsAtFault}
 use Rattle.pt_script.proofs.Stops.{on_ok, on_err, told_fault}
 use Rattle.pt_script.proofs.Wholes.{fed_end, behind_few, behind_fed, behind_end, begins_given}
 use Rattle.pt_script.proofs.Wholes.{stopped_begins, stopped_why, not_ended, behind_begun}
@@ -20,7 +21,7 @@ loop-init g c =
     record {
       behind = behind_begun explains explains_telling (g.R.Source.given c.args.reader.now)
           c.new-cutter.result
-          (known_by c.args.engine.now) (g.W.Sink.taken c.args.writer.now) c.requires.fresh.0
+          (as_script c.args.engine.now) (g.W.Sink.taken c.args.writer.now) c.requires.fresh.0
           c.new-cutter.ensures c.requires.new c.requires.fresh.1;
       begun = begun_held c.new-cutter.result c.new-cutter.ensures;
       read = c.requires.working.0;
@@ -37,17 +38,17 @@ loop-init g c =
       room = refl;
     }
 
-pub returns-in_default-clause-err : goal.returns-in_default-clause-err
-returns-in_default-clause-err g c =
-    let known = known_by c.loop.engine in
+pub returns-in_default-clause-prefix : goal.returns-in_default-clause-prefix
+returns-in_default-clause-prefix g c =
+    let known = as_script c.loop.engine in
     begins_given explains (g.R.Source.given c.loop.reader) (g.R.Source.given c.read.new.self) []
     c.loop.cutter known (g.W.Sink.taken c.loop.writer) c.loop.invariant.behind
     (c.in_default.ensures.bytes ∙ sym (append-nil (g.R.Source.given c.loop.reader)))
 
-pub returns-in_default-clause-why : goal.returns-in_default-clause-why
-returns-in_default-clause-why g c =
-    let known = known_by c.loop.engine in
-    let course : Course = record {
+pub returns-in_default-clause-err : goal.returns-in_default-clause-err
+returns-in_default-clause-err g c =
+    let known = as_script c.loop.engine in
+    let course : RunView = record {
       reader = record {
         given = g.R.Source.given c.read.new.self;
         earlier = g.R.Source.earlier c.read.new.self;
@@ -78,9 +79,9 @@ returns-in_default-clause-why g c =
     } in
     fault
 
-pub finish-requires-clause-few : goal.finish-requires-clause-few
-finish-requires-clause-few g c =
-    let known = known_by c.loop.engine in
+pub finish-requires-clause-within : goal.finish-requires-clause-within
+finish-requires-clause-within g c =
+    let known = as_script c.loop.engine in
     let few = behind_few explains explains_telling (g.R.Source.given c.loop.reader) c.loop.cutter
     known
     (g.W.Sink.taken c.loop.writer) [] c.loop.invariant.behind in
@@ -89,7 +90,7 @@ finish-requires-clause-few g c =
 
 pub returns-then-n-eq0-clause-ok : goal.returns-then-n-eq0-clause-ok
 returns-then-n-eq0-clause-ok g c =
-    let known = known_by c.loop.engine in
+    let known = as_script c.loop.engine in
     let bytes = g.R.Source.given c.loop.reader in
     let given = g.R.Source.given c.read.new.self in
     let text = g.W.Sink.taken c.loop.writer in
@@ -110,13 +111,13 @@ returns-then-n-eq0-clause-ended g c =
     (g.R.Source.ended c.read.new.self) c.if-n-eq0.true
     (omega (arith, c.read.auto.buf, c.loop.invariant.room)) c.in-Ok.ensures.end)
 
-pub returns-then-n-eq0-clause-err : goal.returns-then-n-eq0-clause-err
-returns-then-n-eq0-clause-err g c =
-    let known = known_by c.loop.engine in
+pub returns-then-n-eq0-clause-prefix : goal.returns-then-n-eq0-clause-prefix
+returns-then-n-eq0-clause-prefix g c =
+    let known = as_script c.loop.engine in
     let bytes = g.R.Source.given c.loop.reader in
     let given = g.R.Source.given c.read.new.self in
     let text = g.W.Sink.taken c.loop.writer in
-    let writing : Writing = record {
+    let writing : WriterView = record {
       taken = g.W.Sink.taken c.finish.new.writer;
       flushed = g.W.Sink.flushed c.finish.new.writer;
       failures = g.W.Sink.failures c.finish.new.writer;
@@ -124,21 +125,21 @@ returns-then-n-eq0-clause-err g c =
     } in
     let same = c.in-Ok.ensures.bytes
     ∙ ap (λ n. bytes ++ take n c.read.new.buf) c.if-n-eq0.true in
-    on_err (λ fault. IsStopped explains fault c.loop.cutter known text writing)
+    on_err (λ fault. StopsAtFault explains fault c.loop.cutter known text writing)
     (λ fault. BeginsScriptText explains given writing.taken) c.finish.result
     (λ fault stop. stopped_begins explains explains_telling bytes given [] c.loop.cutter
     c.loop.cutter
     known text writing fault c.loop.invariant.behind same refl stop)
     c.finish.ensures.err
 
-pub returns-then-n-eq0-clause-why : goal.returns-then-n-eq0-clause-why
-returns-then-n-eq0-clause-why g c =
-    let known = known_by c.loop.engine in
+pub returns-then-n-eq0-clause-err : goal.returns-then-n-eq0-clause-err
+returns-then-n-eq0-clause-err g c =
+    let known = as_script c.loop.engine in
     let bytes = g.R.Source.given c.loop.reader in
     let text = g.W.Sink.taken c.loop.writer in
     let same = c.in-Ok.ensures.bytes
     ∙ ap (λ n. bytes ++ take n c.read.new.buf) c.if-n-eq0.true in
-    let course : Course = record {
+    let course : RunView = record {
       reader = record {
         given = g.R.Source.given c.read.new.self;
         earlier = g.R.Source.earlier c.read.new.self;
@@ -155,20 +156,20 @@ returns-then-n-eq0-clause-why g c =
       };
       limit = c.args.reads;
     } in
-    let writing : Writing = record {
+    let writing : WriterView = record {
       taken = g.W.Sink.taken c.finish.new.writer;
       flushed = g.W.Sink.flushed c.finish.new.writer;
       failures = g.W.Sink.failures c.finish.new.writer;
       rejections = g.W.Sink.rejections c.finish.new.writer - g.W.Sink.rejections c.loop.writer;
     } in
-    on_err (λ fault. IsStopped explains fault c.loop.cutter known text writing)
+    on_err (λ fault. StopsAtFault explains fault c.loop.cutter known text writing)
     (λ fault. IsFaultOf explains course fault) c.finish.result
     (λ fault stop. stopped_why explains explains_telling bytes [] c.loop.cutter c.loop.cutter known
     text
     course fault c.loop.invariant.behind c.loop.invariant.begun same c.in-Ok.ensures.before refl
     c.in-Ok.ensures.count
     (subst
-    (λ n. IsStopped explains fault c.loop.cutter known text (record {
+    (λ n. StopsAtFault explains fault c.loop.cutter known text (record {
       taken = course.writer.taken;
       flushed = course.writer.flushed;
       failures = course.writer.failures;
@@ -177,9 +178,9 @@ returns-then-n-eq0-clause-why g c =
     c.loop.invariant.accepted stop))
     c.finish.ensures.err
 
-pub take_in-requires-clause-few : goal.take_in-requires-clause-few
-take_in-requires-clause-few g c =
-    let known = known_by c.loop.engine in
+pub take_in-requires-clause-within : goal.take_in-requires-clause-within
+take_in-requires-clause-within g c =
+    let known = as_script c.loop.engine in
     let bytes = g.R.Source.given c.loop.reader in
     let more = take c.in-Ok.n c.read.new.buf in
     let few = behind_few explains explains_telling bytes c.loop.cutter known
@@ -190,14 +191,14 @@ take_in-requires-clause-few g c =
     let kept = c.read.auto.buf in
     omega (arith, few, same, all, bound, kept)
 
-pub returns-in_err-take_in-clause-err : goal.returns-in_err-take_in-clause-err
-returns-in_err-take_in-clause-err g c =
-    let known = known_by c.loop.engine in
+pub returns-in_err-take_in-clause-prefix : goal.returns-in_err-take_in-clause-prefix
+returns-in_err-take_in-clause-prefix g c =
+    let known = as_script c.loop.engine in
     let bytes = g.R.Source.given c.loop.reader in
     let given = g.R.Source.given c.read.new.self in
     let more = take c.in-Ok.n c.read.new.buf in
-    let next : Held = record c.loop.cutter { rest = c.loop.cutter.rest ++ more } in
-    let writing : Writing = record {
+    let next : CutterView = record c.loop.cutter { rest = c.loop.cutter.rest ++ more } in
+    let writing : WriterView = record {
       taken = g.W.Sink.taken c.take_in.new.writer;
       flushed = g.W.Sink.flushed c.take_in.new.writer;
       failures = g.W.Sink.failures c.take_in.new.writer;
@@ -209,13 +210,13 @@ returns-in_err-take_in-clause-err g c =
     (g.W.Sink.taken c.loop.writer) writing c.in_err-take_in.field-0.0 c.loop.invariant.behind
     c.in-Ok.ensures.bytes (fed_end c.loop.cutter more) c.in_err-take_in.ensures.err)
 
-pub returns-in_err-take_in-clause-why : goal.returns-in_err-take_in-clause-why
-returns-in_err-take_in-clause-why g c =
-    let known = known_by c.loop.engine in
+pub returns-in_err-take_in-clause-err : goal.returns-in_err-take_in-clause-err
+returns-in_err-take_in-clause-err g c =
+    let known = as_script c.loop.engine in
     let bytes = g.R.Source.given c.loop.reader in
     let more = take c.in-Ok.n c.read.new.buf in
-    let next : Held = record c.loop.cutter { rest = c.loop.cutter.rest ++ more } in
-    let course : Course = record {
+    let next : CutterView = record c.loop.cutter { rest = c.loop.cutter.rest ++ more } in
+    let course : RunView = record {
       reader = record {
         given = g.R.Source.given c.read.new.self;
         earlier = g.R.Source.earlier c.read.new.self;
@@ -240,7 +241,7 @@ returns-in_err-take_in-clause-why g c =
     (fed_end c.loop.cutter more)
     c.in-Ok.ensures.count
     (subst
-    (λ n. IsStopped explains c.in_err-take_in.field-0.0 next known
+    (λ n. StopsAtFault explains c.in_err-take_in.field-0.0 next known
     (g.W.Sink.taken c.loop.writer) (record {
       taken = course.writer.taken;
       flushed = course.writer.flushed;
@@ -251,17 +252,17 @@ returns-in_err-take_in-clause-why g c =
 
 pub loop-preserved : goal.loop-preserved
 loop-preserved g c =
-    let known = known_by c.loop.engine in
+    let known = as_script c.loop.engine in
     let bytes = g.R.Source.given c.loop.reader in
     let more = take c.in-Ok.n c.read.new.buf in
     let new = g.W.Sink.taken c.take_in.new.writer in
     let longer = ap length c.in-Ok.ensures.bytes ∙ length-append bytes more in
     let bound = c.in-Ok.ensures.bound in
     let kept = c.read.auto.buf in
-    let last = known_by c.take_in.new.engine in
+    let last = as_script c.take_in.new.engine in
     record {
       behind =
-          subst (λ bs. IsBehind explains bs c.take_in.new.cutter last new) (sym
+          subst (λ bs. HasAnsweredLines explains bs c.take_in.new.cutter last new) (sym
           c.in-Ok.ensures.bytes)
           (behind_fed explains explains_telling bytes more c.loop.cutter known (g.W.Sink.taken
           c.loop.writer)
@@ -281,17 +282,17 @@ loop-preserved g c =
       room = omega (arith, kept);
     }
 
-pub returns-clause-err : goal.returns-clause-err
-returns-clause-err g c =
-    let known = known_by c.loop.engine in
+pub returns-clause-prefix : goal.returns-clause-prefix
+returns-clause-prefix g c =
+    let known = as_script c.loop.engine in
     begins_given explains (g.R.Source.given c.loop.reader) (g.R.Source.given c.loop.reader) []
     c.loop.cutter known (g.W.Sink.taken c.loop.writer) c.loop.invariant.behind
     (sym (append-nil (g.R.Source.given c.loop.reader)))
 
-pub returns-clause-why : goal.returns-clause-why
-returns-clause-why g c =
-    let known = known_by c.loop.engine in
-    let course : Course = record {
+pub returns-clause-err : goal.returns-clause-err
+returns-clause-err g c =
+    let known = as_script c.loop.engine in
+    let course : RunView = record {
       reader = record {
         given = g.R.Source.given c.loop.reader;
         earlier = g.R.Source.earlier c.loop.reader;

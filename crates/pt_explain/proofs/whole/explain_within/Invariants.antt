@@ -1,16 +1,16 @@
 use Rattle.std.proofs.Common.{◌≡◌, ◌+◌, ◌*◌, ◌≤◌, false, length}
-use Rattle.pt_grammar.specs.Lines.{IsBegun}
-use Rattle.pt_engine.specs.Engines.{known_by}
-use Rattle.pt_script.specs.Ends.{IsBehind}
+use Rattle.pt_grammar.specs.Lines.{HasNoWholeLine}
+use Rattle.pt_engine.specs.Engines.{as_script}
+use Rattle.pt_script.specs.Ends.{HasAnsweredLines}
 use Rattle.pt_explain.specs.Explanations.{explains}
 use Rattle.pt_explain.proofs.whole.explain_within.Given as goal
 
 abbrev pub invariant-loop : goal.invariant-loop
 invariant-loop g l = record {
   behind :
-      IsBehind explains (g.R.Source.given l.reader) l.cutter (known_by l.engine)
+      HasAnsweredLines explains (g.R.Source.given l.reader) l.cutter (as_script l.engine)
       (g.W.Sink.taken l.writer);
-  begun : IsBegun l.cutter;
+  begun : HasNoWholeLine l.cutter;
   read : g.R.Source.failures l.reader ≡ 0;
   wrote : g.W.Sink.failures l.writer ≡ 0;
   accepted : g.W.Sink.rejections l.writer ≡ g.W.Sink.rejections l.fn.writer;

@@ -1,22 +1,22 @@
 use Rattle.std.proofs.Common.{◌-◌, ◌++◌}
-use Rattle.pt_grammar.specs.Lines.{Held}
+use Rattle.pt_grammar.specs.Lines.{CutterView}
 use Rattle.pt_engine.specs.declared.fault.ScriptFault.TheVariants.{Write}
-use Rattle.pt_engine.specs.Engines.{known_by}
-use Rattle.pt_script.specs.Texts.{Writing}
-use Rattle.pt_script.specs.Stops.{IsStopped}
+use Rattle.pt_engine.specs.Engines.{as_script}
+use Rattle.pt_script.specs.Texts.{WriterView}
+use Rattle.pt_script.specs.Stops.{StopsAtFault}
 use Rattle.pt_script.proofs.Stops.{cut_off, told_fault}
 use Rattle.pt_explain.specs.Explanations.{explains}
 use Rattle.pt_explain.proofs.whole.take_in.Goals as goal
 
 pub returns-in_err-deliver-clause-err : goal.returns-in_err-deliver-clause-err
 returns-in_err-deliver-clause-err g c =
-    let known = known_by c.args.engine.now in
+    let known = as_script c.args.engine.now in
     let gives = c.from_residual-in_err-deliver.ensures in
-    let why = c.in_err-deliver.ensures.why in
-    let held : Held =
+    let why = c.in_err-deliver.ensures.err in
+    let held : CutterView =
     record c.args.cutter.now { rest = c.args.cutter.now.rest ++ c.args.piece.now } in
     let old = g.W.Sink.taken c.args.writer.now in
-    let writing : Writing = record {
+    let writing : WriterView = record {
       taken = g.W.Sink.taken c.deliver.new.writer;
       flushed = g.W.Sink.flushed c.deliver.new.writer;
       failures = g.W.Sink.failures c.deliver.new.writer;
@@ -24,8 +24,9 @@ returns-in_err-deliver-clause-err g c =
           g.W.Sink.rejections c.deliver.new.writer - g.W.Sink.rejections c.args.writer.now;
     } in
     told_fault c.from_residual-in_err-deliver.result Write
-    (λ fault. IsStopped explains fault held known old writing) (rw why at gives.1)
+    (λ fault. StopsAtFault explains fault held known old writing) (rw why at gives.1)
     (cut_off explains held c.feed.new.self known
-    c.clear.new.self.items c.explain_all.new.cutter (known_by c.explain_all.new.engine)
+    c.clear.new.self.items c.explain_all.new.cutter (as_script c.explain_all.new.engine)
     c.explain_all.new.out.items c.deref.result.now old writing c.in_ok-explain_all.ensures.ok
-    c.in-Ok.ensures.ok c.clear.ensures.items c.deref.ensures.value c.in_err-deliver.ensures.err)
+    c.in-Ok.ensures.ok c.clear.ensures.items c.deref.ensures.value
+    c.in_err-deliver.ensures.prefix)

@@ -2,7 +2,7 @@ use Rattle.std.proofs.Common.{◌≡◌, ◌≢◌, ◌≤◌, ◌⊎◌, true, 
 use Rattle.pt_fields.specs.Numbers.{is_digit}
 use Rattle.pt_fields.proofs.NumberLemmas.{value_small, value_more, value_bound, digit_byte}
 use Rattle.pt_fields.proofs.NumberLemmas.{digits_more}
-use Rattle.pt_fields.proofs.NumberLemmas.{number_of-digits, not_number-length, not_number-zero}
+use Rattle.pt_fields.proofs.NumberLemmas.{read_number-digits, not_number-length, not_number-zero}
 use Rattle.pt_fields.proofs.NumberLemmas.{not_number-digit}
 use Rattle.pt_fields.proofs.number.read_number.Goals as goal
 use Rattle.pt_fields.proofs.number.read_number.Goals.{
@@ -55,7 +55,7 @@ returns-clause-value c =
       | else-field-gt1-via-then-field-gt1+else-field-eq48 w ↦ inr w.if-field-eq48.false
       | else-field-gt1-via-else-field-gt1 w ↦ inl w.if-field-gt1.false
     ] in
-    number_of-digits field c.loop-byte.number c.loop-byte.byte-index c.loop-byte-test.false
+    read_number-digits field c.loop-byte.number c.loop-byte.byte-index c.loop-byte-test.false
     c.if-is_empty.ensures c.if-field-gt10.false alone c.loop-byte.invariant.digits
     c.loop-byte.invariant.value
 

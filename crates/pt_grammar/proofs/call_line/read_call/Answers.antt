@@ -4,9 +4,9 @@ use Rattle.pt_types.specs.declared.outcome.Refusal.TheVariants.{Syntax}
 use Rattle.pt_grammar.proofs.GrammarLemmas.{found_by, length-spelled, line_read-spelled}
 use Rattle.pt_grammar.proofs.call_line.read_call.Goals as goal
 
-pub returns-then-text-gt-MOST_IN_LINE-clause-exact :
-    goal.returns-then-text-gt-MOST_IN_LINE-clause-exact
-returns-then-text-gt-MOST_IN_LINE-clause-exact c =
+pub returns-then-text-gt-MAX_LINE_LENGTH-clause-exact :
+    goal.returns-then-text-gt-MAX_LINE_LENGTH-clause-exact
+returns-then-text-gt-MAX_LINE_LENGTH-clause-exact c =
     λ line s. let short = length-spelled c.args.text.now line s in absurd (omega arith)
 
 pub returns-clause-found : goal.returns-clause-found

@@ -12,8 +12,8 @@ at_least a b = cond (leb a b) 255 0
 few : 8 ≤ 64
 few = omega arith
 
-pub returns-then-mask-eq0-clause-stand : goal.returns-then-mask-eq0-clause-stand
-returns-then-mask-eq0-clause-stand c =
+pub returns-then-mask-eq0-clause-valid : goal.returns-then-mask-eq0-clause-valid
+returns-then-mask-eq0-clause-valid c =
     let xs = take 8 c.args.text.now in
     let long = length-take-le 8 c.args.text.now c.requires in
     let digits =
@@ -25,8 +25,8 @@ returns-then-mask-eq0-clause-stand c =
     (sym (cond-true _ _ _ (eq-eqb _ _ c.if-mask-eq0.true)))
     _ (zip2_of_maps bit_and _ _ xs digits letters) refl).1
 
-pub returns-clause-short : goal.returns-clause-short
-returns-clause-short c =
+pub returns-clause-within : goal.returns-clause-within
+returns-clause-within c =
     let xs = take 8 c.args.text.now in
     let long = length-take-le 8 c.args.text.now c.requires in
     let digits =
@@ -38,8 +38,8 @@ returns-clause-short c =
     (sym (cond-false _ _ _ (ne_eqb _ _ c.if-mask-eq0.false)))
     _ (zip2_of_maps bit_and _ _ xs digits letters) refl).0
 
-pub returns-clause-stand : goal.returns-clause-stand
-returns-clause-stand c =
+pub returns-clause-valid : goal.returns-clause-valid
+returns-clause-valid c =
     let xs = take 8 c.args.text.now in
     let long = length-take-le 8 c.args.text.now c.requires in
     let digits =

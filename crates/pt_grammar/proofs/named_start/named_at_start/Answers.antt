@@ -1,7 +1,7 @@
 use Rattle.std.proofs.Common.{◌≡◌, ◌++◌, ◌∷◌, List, ℕ, Option, Some, None, Ok, Err, IfSome, Bor}
 use Rattle.std.proofs.Common.{◌≤◌, length}
 use Rattle.pt_types.specs.declared.outcome.Refusal.TheVariants.{Syntax}
-use Rattle.pt_grammar.proofs.AskedLemmas.{named_refused}
+use Rattle.pt_grammar.proofs.CallLineLemmas.{named_refused}
 use Rattle.pt_types.specs.Names.{IsName}
 use Rattle.pt_types.specs.NamedVerbs.{call_on}
 use Rattle.pt_types.specs.declared.named_verb.NamedVerb.{NamedVerb}
@@ -29,8 +29,8 @@ if_refused text None h = tt
 if_refused text (Some said) h = named_refused text said.0 said.1.now h
 
 pub returns-clause-called : goal.returns-clause-called
-returns-clause-called c = if_read c.args.text.now c.said_at_start.result c.said_at_start.ensures
+returns-clause-called c = if_read c.args.text.now c.word_at_start.result c.word_at_start.ensures
 
 pub returns-clause-refused : goal.returns-clause-refused
 returns-clause-refused c =
-    if_refused c.args.text.now c.said_at_start.result c.said_at_start.ensures
+    if_refused c.args.text.now c.word_at_start.result c.word_at_start.ensures

@@ -1,6 +1,6 @@
 use Rattle.std.proofs.Common.{◌∙◌, sym}
 use Rattle.pt_grammar.specs.Verbs.{timed_word}
-use Rattle.pt_grammar.proofs.AskedLemmas.{begins}
+use Rattle.pt_grammar.proofs.CallLineLemmas.{begins}
 use Rattle.pt_grammar.proofs.WordLemmas.{timed_spelled}
 use Rattle.pt_grammar.proofs.named_start.timed_at_start.Goals as goal
 

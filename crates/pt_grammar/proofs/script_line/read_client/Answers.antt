@@ -6,7 +6,7 @@ returns-in-Some-clause-who c =
     who_at_start c.args.text.now c.in-Some.name c.in-Some.rest.now c.in-Some.ensures.name
     c.in-Some.ensures.text
 
-pub returns-in-Some-clause-behind : goal.returns-in-Some-clause-behind
-returns-in-Some-clause-behind c =
+pub returns-in-Some-clause-rest : goal.returns-in-Some-clause-rest
+returns-in-Some-clause-rest c =
     rest_at_start c.args.text.now c.in-Some.name c.in-Some.rest.now c.in-Some.ensures.name
     c.in-Some.ensures.text

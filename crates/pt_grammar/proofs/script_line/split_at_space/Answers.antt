@@ -11,13 +11,13 @@ pub returns-in-Some-clause-before : goal.returns-in-Some-clause-before
 returns-in-Some-clause-before c =
     sym (before-found c.args.text.now c.in-Some.end c.in-Some.ensures)
 
-pub returns-in-Some-clause-behind : goal.returns-in-Some-clause-behind
-returns-in-Some-clause-behind c =
+pub returns-in-Some-clause-rest : goal.returns-in-Some-clause-rest
+returns-in-Some-clause-rest c =
     ap Some (to_end (c.in-Some.end + 1) c.args.text.now)
     ∙ sym (behind-found c.args.text.now c.in-Some.end c.in-Some.ensures)
 
 pub returns-in-None-clause-before : goal.returns-in-None-clause-before
 returns-in-None-clause-before c = sym (before-missing c.args.text.now c.in-None.ensures)
 
-pub returns-in-None-clause-behind : goal.returns-in-None-clause-behind
-returns-in-None-clause-behind c = sym (behind-missing c.args.text.now c.in-None.ensures)
+pub returns-in-None-clause-rest : goal.returns-in-None-clause-rest
+returns-in-None-clause-rest c = sym (behind-missing c.args.text.now c.in-None.ensures)

@@ -25,5 +25,5 @@ returns-then-eights_equal c =
     let last : drop (length xs - 16) xs ≡ drop from ys =
     ap (λ n. drop (n - 16) xs) c.requires.same
     ∙ (sym (rest xs from) ∙ (c.eights_equal.ensures c.if-eights_equal.true ∙ rest ys from)) in
-    λ first. same-ends xs ys 16 c.requires.same (omega (arith, c.requires.few)) c.requires.enough
+    λ first. same-ends xs ys 16 c.requires.same (omega (arith, c.requires.within)) c.requires.enough
     (c.eights_equal-then-eights_equal.ensures first) last

@@ -1,6 +1,6 @@
 use Rattle.std.proofs.Common.{ap, sym, ◌∙◌}
 use Rattle.pt_types.specs.declared.call.Call.TheVariants.{BarrierInit}
-use Rattle.pt_history.proofs.Seen.{from-zero}
+use Rattle.pt_history.proofs.Views.{from-zero}
 use Rattle.pt_history.proofs.compact.barrier.Goals as goal
 
 pub returns-in_ok-near-in-BarrierInit : goal.returns-in_ok-near-in-BarrierInit

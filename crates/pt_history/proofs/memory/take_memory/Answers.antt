@@ -1,5 +1,5 @@
 use Rattle.std.proofs.Common.{◌+◌, Bool, cond, [], ◌++◌, ap, sym, ◌∙◌}
-use Rattle.pt_history.proofs.Seen.{from-zero}
+use Rattle.pt_history.proofs.Views.{from-zero}
 use Rattle.pt_history.proofs.memory.take_memory.Goals as goal
 
 pub returns-then-is_ok-clause-items : goal.returns-then-is_ok-clause-items

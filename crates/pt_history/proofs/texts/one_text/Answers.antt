@@ -2,7 +2,7 @@ use Rattle.std.proofs.Common.{◌∙◌, arith}
 use Rattle.pt_history.specs.Records.{HasText}
 use Rattle.pt_history.proofs.Names.{short-name, wide, as-wide, near-start, room-one, found-there}
 use Rattle.pt_history.proofs.Names.{text-there, text-appended}
-use Rattle.pt_history.proofs.Seen.{if-none, none-holds}
+use Rattle.pt_history.proofs.Views.{if-none, none-holds}
 use Rattle.pt_history.proofs.texts.one_text.Goals as goal
 
 pub overflow_cast-hint : goal.overflow_cast-hint
@@ -42,8 +42,8 @@ returns-clause-some g c =
 pub returns-clause-none : goal.returns-clause-none
 returns-clause-none g c = λ e. if-none _ e
 
-pub returns-clause-same : goal.returns-clause-same
-returns-clause-same g c = λ e. if-none _ e
+pub returns-clause-unchanged : goal.returns-clause-unchanged
+returns-clause-unchanged g c = λ e. if-none _ e
 
 pub returns-in_err-from-clause-some : goal.returns-in_err-from-clause-some
 returns-in_err-from-clause-some g c =

@@ -2,7 +2,7 @@ use Rattle.std.proofs.Common.{◌∙◌, arith}
 use Rattle.pt_history.specs.Records.{HasTexts}
 use Rattle.pt_history.proofs.Names.{short-name, wide, as-wide, near-start, next-wide, next-near}
 use Rattle.pt_history.proofs.Names.{room-one, room-two, found-there, texts-there, texts-appended}
-use Rattle.pt_history.proofs.Seen.{if-none, none-holds}
+use Rattle.pt_history.proofs.Views.{if-none, none-holds}
 use Rattle.pt_history.proofs.texts.two_texts.Goals as goal
 
 pub overflow_cast-hint : goal.overflow_cast-hint
@@ -73,8 +73,8 @@ returns-clause-some g c =
 pub returns-clause-none : goal.returns-clause-none
 returns-clause-none g c = λ e. if-none _ e
 
-pub returns-clause-same : goal.returns-clause-same
-returns-clause-same g c = λ e. if-none _ e
+pub returns-clause-unchanged : goal.returns-clause-unchanged
+returns-clause-unchanged g c = λ e. if-none _ e
 
 pub returns-in_err-from-clause-some : goal.returns-in_err-from-clause-some
 returns-in_err-from-clause-some g c =

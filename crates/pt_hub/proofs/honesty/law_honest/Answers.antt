@@ -6,7 +6,7 @@ use Rattle.pt_hub.proofs.honesty.law_honest.Goals as goal
 
 pub returns : goal.returns
 returns g c =
-    let d = c.args.desk.now in
+    let d = c.args.inner.now in
     honest d c.args.left.now c.law_cells.ensures
     (subst (λ o. HasMet d o) c.joined.ensures c.law_met.ensures)
     (subst (λ rs. Each (IsMet d) rs) c.receipts.ensures c.law_all_met.ensures)

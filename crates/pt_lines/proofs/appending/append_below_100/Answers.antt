@@ -12,7 +12,7 @@ push_reserved-requires g c =
 pub append_pair-requires-clause-room : goal.append_pair-requires-clause-room
 append_pair-requires-clause-room g c =
     let room = c.requires.room in
-    omega (arith, room, length_two c.args.n c.if-n-lt10.false c.requires.below)
+    omega (arith, room, length_two c.args.n c.if-n-lt10.false c.requires.within)
 
 pub returns-then-n-lt10-clause-items : goal.returns-then-n-lt10-clause-items
 returns-then-n-lt10-clause-items g c =
@@ -24,12 +24,12 @@ returns-then-n-lt10-clause-len g c =
 
 pub returns-else-n-lt10-clause-items : goal.returns-else-n-lt10-clause-items
 returns-else-n-lt10-clause-items g c =
-    rw (c.append_pair.ensures.items, decimal_two c.args.n c.if-n-lt10.false c.requires.below)
+    rw (c.append_pair.ensures.items, decimal_two c.args.n c.if-n-lt10.false c.requires.within)
 
 pub returns-else-n-lt10-clause-len : goal.returns-else-n-lt10-clause-len
 returns-else-n-lt10-clause-len g c =
     omega (
       arith,
       c.append_pair.ensures.len,
-      length_two c.args.n c.if-n-lt10.false c.requires.below,
+      length_two c.args.n c.if-n-lt10.false c.requires.within,
     )

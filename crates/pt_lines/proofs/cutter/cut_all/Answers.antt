@@ -4,18 +4,19 @@ use Rattle.std.proofs.Common.{Bool, true, false, cond, ap, sym, append_assoc, ar
 use Rattle.std.proofs.lemmas.List.{append-nil, take_more, take_all, flat_map_more}
 use Rattle.std.specs.List.{flat_map}
 use Rattle.pt_grammar.specs.declared.cut.Cut.{Cut}
-use Rattle.pt_grammar.specs.Lines.{lines, lines_past_newline, to_come, Held, IsBegun}
+use Rattle.pt_grammar.specs.Lines.{lines, lines_after_newline, lines_to_come, CutterView}
+use Rattle.pt_grammar.specs.Lines.{HasNoWholeLine}
 use Rattle.pt_lines.proofs.cutter.cut_all.Goals as goal
 use Rattle.pt_lines.proofs.cutter.cut_all.Goals.{in-Some-finish+else-is_err-2, in_default-finish}
 
 -- these lines were given for these bytes, and a cutter that holds the rest gives the others
-abbrev Given : List ℕ → List Cut → Held → Type 0
-Given bytes cuts held = (more : List ℕ) → lines (bytes ++ more) ≡ cuts ++ to_come held more
+abbrev Given : List ℕ → List Cut → CutterView → Type 0
+Given bytes cuts held = (more : List ℕ) → lines (bytes ++ more) ≡ cuts ++ lines_to_come held more
 
 -- after one more piece is fed
 given-fed :
     {X : Type 0} (text : X → List ℕ) (pieces : List X) (i : ℕ) (d : X) (cuts : List Cut)
-    (old new : Held) → i < length pieces → Given (flat_map text (take i pieces)) cuts old
+    (old new : CutterView) → i < length pieces → Given (flat_map text (take i pieces)) cuts old
     → new ≡ record { rest = old.rest ++ text (get_or pieces i d); dropping = old.dropping }
     → Given (flat_map text (take (i + 1) pieces)) cuts new
 given-fed text pieces i d cuts old new lt given fed more =
@@ -26,9 +27,9 @@ given-fed text pieces i d cuts old new lt given fed more =
     (sym (flat_map_more text [] (take i pieces) (get_or pieces i d)))
     ∙ ap lines (append_assoc before piece more)
     ∙ given (piece ++ more)
-    ∙ ap (λ bytes. cuts ++ cond old.dropping (lines_past_newline bytes) (lines bytes))
+    ∙ ap (λ bytes. cuts ++ cond old.dropping (lines_after_newline bytes) (lines bytes))
     (sym (append_assoc old.rest piece more))
-    ∙ ap (λ held. cuts ++ to_come held more) (sym fed)
+    ∙ ap (λ held. cuts ++ lines_to_come held more) (sym fed)
 
 -- a push that was not refused added the line
 pushed :
@@ -38,27 +39,27 @@ pushed done cuts all cut is held = is ∙ ap (λ b. cond b (cuts ++ cut ∷ []) 
 
 -- after one more line is given
 given-line :
-    (bytes : List ℕ) (cuts all : List Cut) (cut : Cut) (old new : Held) → Given bytes cuts old
-    → ((more : List ℕ) → to_come old more ≡ cut ∷ to_come new more)
+    (bytes : List ℕ) (cuts all : List Cut) (cut : Cut) (old new : CutterView) → Given bytes cuts old
+    → ((more : List ℕ) → lines_to_come old more ≡ cut ∷ lines_to_come new more)
     → all ≡ cuts ++ cut ∷ [] → Given bytes all new
 given-line bytes cuts all cut old new given next is more =
     given more
     ∙ ap (λ rest. cuts ++ rest) (next more)
-    ∙ sym (append_assoc cuts (cut ∷ []) (to_come new more))
-    ∙ ap (λ ls. ls ++ to_come new more) (sym is)
+    ∙ sym (append_assoc cuts (cut ∷ []) (lines_to_come new more))
+    ∙ ap (λ ls. ls ++ lines_to_come new more) (sym is)
 
 -- after no line is given
 given-none :
-    (bytes : List ℕ) (cuts : List Cut) (old new : Held) → Given bytes cuts old
-    → ((more : List ℕ) → to_come old more ≡ to_come new more) → Given bytes cuts new
+    (bytes : List ℕ) (cuts : List Cut) (old new : CutterView) → Given bytes cuts old
+    → ((more : List ℕ) → lines_to_come old more ≡ lines_to_come new more) → Given bytes cuts new
 given-none bytes cuts old new given same more =
     given more ∙ ap (λ rest. cuts ++ rest) (same more)
 
 -- all pieces were fed, and these are the last lines
 given-all :
     {X : Type 0} (text : X → List ℕ) (pieces : List X) (i : ℕ) (cuts rest : List Cut)
-    (held : Held) → length pieces ≤ i → Given (flat_map text (take i pieces)) cuts held
-    → to_come held [] ≡ rest → cuts ++ rest ≡ lines (flat_map text pieces)
+    (held : CutterView) → length pieces ≤ i → Given (flat_map text (take i pieces)) cuts held
+    → lines_to_come held [] ≡ rest → cuts ++ rest ≡ lines (flat_map text pieces)
 given-all text pieces i cuts rest held le given last =
     ap (λ ls. cuts ++ ls) (sym last)
     ∙ sym (given [])
@@ -67,15 +68,16 @@ given-all text pieces i cuts rest held le given last =
 
 -- nothing was fed
 given-empty :
-    (cuts : List Cut) (held : Held) → cuts ≡ [] → held ≡ record { rest = []; dropping = false }
-    → Given [] cuts held × IsBegun held
+    (cuts : List Cut) (held : CutterView) → cuts ≡ [] → held
+    ≡ record { rest = []; dropping = false }
+    → Given [] cuts held × HasNoWholeLine held
 given-empty cuts held none new = (
-  λ more. ap (λ h. to_come h more) (sym new)
-      ∙ ap (λ cs. cs ++ to_come held more) (sym none),
-  begun held (ap (λ (h : Held). h.rest) new),
+  λ more. ap (λ h. lines_to_come h more) (sym new)
+      ∙ ap (λ cs. cs ++ lines_to_come held more) (sym none),
+  begun held (ap (λ (h : CutterView). h.rest) new),
 )
   where
-    begun : (held : Held) → held.rest ≡ [] → IsBegun held
+    begun : (held : CutterView) → held.rest ≡ [] → HasNoWholeLine held
     begun held empty =
         let none : length held.rest ≡ 0 = ap length empty in
         record {
@@ -134,11 +136,11 @@ returns g c =
             ∙ ap (λ ls. cuts ++ ls) (sym w.in_default-finish.ensures ∙ c.finish.ensures)
             ∙ all
       ];
-      why = tt;
+      err = tt;
     }
 
 pub returns-then-is_err-clause-ok : goal.returns-then-is_err-clause-ok
 returns-then-is_err-clause-ok g c = tt
 
-pub returns-then-is_err-clause-why : goal.returns-then-is_err-clause-why
-returns-then-is_err-clause-why g c = refl
+pub returns-then-is_err-clause-err : goal.returns-then-is_err-clause-err
+returns-then-is_err-clause-err g c = refl

@@ -1,5 +1,5 @@
-use Rattle.pt_lines.proofs.CutLemmas.{lines-joined}
+use Rattle.pt_lines.proofs.CutLemmas.{lines-join_lines}
 use Rattle.pt_lines.proofs.cutter.lines_of_texts.Goals as goal
 
 pub returns : goal.returns
-returns c = lines-joined
+returns c = lines-join_lines

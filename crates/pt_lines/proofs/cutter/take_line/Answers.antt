@@ -8,7 +8,7 @@ use Rattle.pt_lines.proofs.cutter.take_line.Goals as goal
 
 pub returns-in-Some-clause-some : goal.returns-in-Some-clause-some
 returns-in-Some-clause-some g c =
-    let held = c.args.held.now.items in
+    let held = c.args.buffer.now.items in
     let found =
     first_in_front held c.min-count.result c.in-Some.end
     (rw c.as_slice-text.ensures at c.in-Some.ensures) in
@@ -19,7 +19,7 @@ returns-in-Some-clause-some g c =
 
 pub returns-in-None-clause-some : goal.returns-in-None-clause-some
 returns-in-None-clause-some g c =
-    let held = c.args.held.now.items in
+    let held = c.args.buffer.now.items in
     let none =
     none_at (take c.min-count.result held)
     (rw c.as_slice-text.ensures at c.in-None.ensures) in
@@ -34,12 +34,12 @@ shorter n xs ys e pos le = omega (arith, ap length e, length-drop n xs)
 
 pub returns-in-None-clause-fewer : goal.returns-in-None-clause-fewer
 returns-in-None-clause-fewer g c =
-    shorter 129 c.args.held.now.items c.advance-in-None.new.self.items
+    shorter 129 c.args.buffer.now.items c.advance-in-None.new.self.items
     c.advance-in-None.ensures.items (omega arith) (omega arith)
 
 pub returns-in-Some-clause-fewer : goal.returns-in-Some-clause-fewer
 returns-in-Some-clause-fewer g c =
-    let held = c.args.held.now.items in
+    let held = c.args.buffer.now.items in
     let found =
     first_in_front held c.min-count.result c.in-Some.end
     (rw c.as_slice-text.ensures at c.in-Some.ensures) in
@@ -47,7 +47,7 @@ returns-in-Some-clause-fewer g c =
 
 pub advance-requires : goal.advance-requires
 advance-requires g c =
-    let held = c.args.held.now.items in
+    let held = c.args.buffer.now.items in
     let found =
     first_in_front held c.min-count.result c.in-Some.end
     (rw c.as_slice-text.ensures at c.in-Some.ensures) in
@@ -55,7 +55,7 @@ advance-requires g c =
 
 pub slice_bounds-line_of-end : goal.slice_bounds-line_of-end
 slice_bounds-line_of-end g c =
-    let held = c.args.held.now.items in
+    let held = c.args.buffer.now.items in
     let found =
     first_in_front held c.min-count.result c.in-Some.end
     (rw c.as_slice-text.ensures at c.in-Some.ensures) in
@@ -64,7 +64,7 @@ slice_bounds-line_of-end g c =
 
 pub line_of-line-requires : goal.line_of-line-requires
 line_of-line-requires g c =
-    let held = c.args.held.now.items in
+    let held = c.args.buffer.now.items in
     let found =
     first_in_front held c.min-count.result c.in-Some.end
     (rw c.as_slice-text.ensures at c.in-Some.ensures) in
@@ -74,15 +74,15 @@ line_of-line-requires g c =
 pub slice_bounds-memchr-end : goal.slice_bounds-memchr-end
 slice_bounds-memchr-end g c =
     front_within c.min-count.result c.len.result c.as_slice-text.result.now
-    c.args.held.now.items c.as_slice-text.ensures c.len.ensures.value
+    c.args.buffer.now.items c.as_slice-text.ensures c.len.ensures.value
     (least_within c.min-count.result c.len.result 129 c.min-count.ensures)
 
 pub returns-in-None-2-clause-none : goal.returns-in-None-2-clause-none
 returns-in-None-2-clause-none g c =
-    let held = c.args.held.now.items in
+    let held = c.args.buffer.now.items in
     let few =
     few_held c.min-count.result c.len.result held c.min-count.ensures c.len.ensures.value
-    c.if-count-gt-MOST_IN_LINE.false in (
+    c.if-count-gt-MAX_LINE_LENGTH.false in (
       subst NoNewline few.1
           (none_at (take c.min-count.result held)
           (rw c.as_slice-text.ensures at c.in-None-2.ensures)),

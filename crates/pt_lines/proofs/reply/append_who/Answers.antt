@@ -17,6 +17,6 @@ returns-in-Some g c =
           c.append_filled.ensures.items)
           c.push_reserved.ensures.items
           ∙ ap (λ who. out ++ sender (option_copied who)) (sym c.in-Some.is);
-      short = omega arith;
+      within = omega arith;
       capacity = c.push_reserved.ensures.capacity ∙ c.append_filled.ensures.capacity;
     }

@@ -76,7 +76,7 @@ returns g c =
           (append-same spaced spaced told c.as_bytes-text.result.now word refl
           (c.as_bytes-text.ensures.value ∙ c.text.ensures.value) c.append-2.ensures.items))
           c.push_reserved-2.ensures.items);
+      unchanged = tt;
       err = tt;
-      why = tt;
-      enough = λ _. refl;
+      succeeds_if = λ _. refl;
     }

@@ -8,7 +8,7 @@ use Rattle.pt_machine.proofs.calls.push_answered.Goals as goal
 pub returns-in_default : goal.returns-in_default
 returns-in_default g c =
     let other : is_done c.args.answer ≡ false = search rules in
-    pushes-on-ok (told-pushes c.requires other c.push_told.ensures)
+    pushes-on-ok (told-pushes c.requires other c.push_answered_call.ensures)
 
 pub push_done-requires : goal.push_done-requires
 push_done-requires g c =

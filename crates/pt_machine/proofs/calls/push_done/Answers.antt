@@ -2,7 +2,7 @@ use Rattle.std.proofs.Common.{ap, ◌∙◌}
 use Rattle.pt_types.specs.Operations.{operation}
 use Rattle.pt_state.specs.Calling.{is_plain}
 use Rattle.pt_machine.proofs.QueuedAnswers.{plain-pushes, pushes-on-ok}
-use Rattle.pt_state.specs.Adds.{past}
+use Rattle.pt_state.specs.Adds.{history_of}
 use Rattle.pt_state.specs.Requests.{object_meant}
 use Rattle.pt_machine.proofs.calls.push_done.Goals as goal
 
@@ -11,8 +11,8 @@ push_unlock-requires-clause-operation g c = ap operation c.in-Unlock.is
 
 pub push_unlock-requires-clause-found : goal.push_unlock-requires-clause-found
 push_unlock-requires-clause-found g c =
-    c.requires.asks.object
-    ∙ ap (λ d. object_meant (past c.args.state.now) (operation d)) c.in-Unlock.is
+    c.requires.has_request.object
+    ∙ ap (λ d. object_meant (history_of c.args.state.now) (operation d)) c.in-Unlock.is
 
 pub returns-in-Unlock : goal.returns-in-Unlock
 returns-in-Unlock g c =
@@ -25,8 +25,8 @@ push_rwunlock-requires-clause-operation g c = ap operation c.in-Rwunlock.is
 
 pub push_rwunlock-requires-clause-found : goal.push_rwunlock-requires-clause-found
 push_rwunlock-requires-clause-found g c =
-    c.requires.asks.object
-    ∙ ap (λ d. object_meant (past c.args.state.now) (operation d)) c.in-Rwunlock.is
+    c.requires.has_request.object
+    ∙ ap (λ d. object_meant (history_of c.args.state.now) (operation d)) c.in-Rwunlock.is
 
 pub returns-in-Rwunlock : goal.returns-in-Rwunlock
 returns-in-Rwunlock g c =
@@ -39,8 +39,8 @@ push_signal-requires-clause-operation g c = ap operation c.in-Signal.is
 
 pub push_signal-requires-clause-found : goal.push_signal-requires-clause-found
 push_signal-requires-clause-found g c =
-    c.requires.asks.object
-    ∙ ap (λ d. object_meant (past c.args.state.now) (operation d)) c.in-Signal.is
+    c.requires.has_request.object
+    ∙ ap (λ d. object_meant (history_of c.args.state.now) (operation d)) c.in-Signal.is
 
 pub returns-in-Signal : goal.returns-in-Signal
 returns-in-Signal g c =
@@ -51,8 +51,8 @@ push_restored-requires-clause-operation g c = ap operation c.in-Consistent.is
 
 pub push_restored-requires-clause-found : goal.push_restored-requires-clause-found
 push_restored-requires-clause-found g c =
-    c.requires.asks.object
-    ∙ ap (λ d. object_meant (past c.args.state.now) (operation d)) c.in-Consistent.is
+    c.requires.has_request.object
+    ∙ ap (λ d. object_meant (history_of c.args.state.now) (operation d)) c.in-Consistent.is
 
 pub returns-in-Consistent : goal.returns-in-Consistent
 returns-in-Consistent g c =

@@ -7,7 +7,7 @@ use Rattle.pt_machine.proofs.waiting.priority_in_row.Goals as goal
 
 pub returns : goal.returns
 returns g c =
-    sym (c.requires.read.callers.look.living c.args.c)
+    sym (c.requires.tables.callers.look.living c.args.c)
     ∙ (ap (λ d. option_map (λ (v : Caller). v.priority)
     (client_value c.args.state.now.clients d)) (sym c.c.view_is)
     ∙ ap (option_map (λ (v : Caller). v.priority))

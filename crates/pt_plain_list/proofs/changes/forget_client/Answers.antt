@@ -35,8 +35,8 @@ loop-i-preserved g c =
       kept.2,
     )
 
-pub returns-clause-kept : goal.returns-clause-kept
-returns-clause-kept g c =
+pub returns-clause-others : goal.returns-clause-others
+returns-clause-others g c =
     kept-last (λ (x : ℕ). not (x == c.args.client)) c.args.clients.now.items c.loop-i.clients.items
     c.loop-i.i c.loop-i-test.false c.loop-i.invariant.1
 

@@ -38,8 +38,8 @@ loop-i-preserved g c =
       kept.2,
     )
 
-pub returns-clause-kept : goal.returns-clause-kept
-returns-clause-kept g c =
+pub returns-clause-others : goal.returns-clause-others
+returns-clause-others g c =
     let test = λ (e : ℕ × Waiter). not (e.1.client == c.args.client) in
     kept-last test c.args.entries.now.items c.loop-i.entries.items
     c.loop-i.i c.loop-i-test.false c.loop-i.invariant.1

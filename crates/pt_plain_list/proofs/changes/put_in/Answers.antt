@@ -10,7 +10,7 @@ returns-clause-bound g c =
     let left = c.forget_client.new.clients in
     let fewer = fewer-idle c.args.waiter.client idle.items c.requires.admitted in
     let len = c.push_reserved.ensures.len in
-    omega (arith, fewer, ap length c.forget_client.ensures.kept, idle.ok.0, left.ok.0, len)
+    omega (arith, fewer, ap length c.forget_client.ensures.others, idle.ok.0, left.ok.0, len)
 
 pub returns-clause-admitted : goal.returns-clause-admitted
 returns-clause-admitted g c = λ d.
@@ -19,7 +19,7 @@ returns-clause-admitted g c = λ d.
     let es = c.args.waiting.now.items in
     let left = filter (λ x. not (x == client)) idle in
     ap (λ cs. is_listed d cs || has_waiter d c.push_reserved.new.self.items)
-    c.forget_client.ensures.kept
+    c.forget_client.ensures.others
     ∙ (ap (λ xs. is_listed d left || has_waiter d xs) c.push_reserved.ensures.items
     ∙ inserted client idle es (c.args.object, c.args.waiter) refl c.requires.admitted d)
 

@@ -17,7 +17,7 @@ returns-then-has_entry-clause-admitted g c = λ d.
     ∙ (sym c.has_entry.ensures ∙ c.if-has_entry.true) in
     ap (λ cs. is_listed d cs || has_waiter d c.forget_waiter.new.entries.items)
     c.push_reserved.ensures.items
-    ∙ (ap (λ xs. is_listed d (idle ++ client ∷ []) || has_waiter d xs) c.forget_waiter.ensures.kept
+    ∙ (ap (λ xs. is_listed d (idle ++ client ∷ []) || has_waiter d xs) c.forget_waiter.ensures.others
     ∙ removed client idle es has d)
 
 pub returns-then-has_entry-clause-bound : goal.returns-then-has_entry-clause-bound
@@ -30,7 +30,7 @@ returns-then-has_entry-clause-bound g c =
     ∙ (sym c.has_entry.ensures ∙ c.if-has_entry.true) in
     let fewer = fewer-waiting client old.items has in
     let len = c.push_reserved.ensures.len in
-    omega (arith, fewer, ap length c.forget_waiter.ensures.kept, old.ok.0, left.ok.0, len)
+    omega (arith, fewer, ap length c.forget_waiter.ensures.others, old.ok.0, left.ok.0, len)
 
 pub returns-else-has_entry-clause-entries : goal.returns-else-has_entry-clause-entries
 returns-else-has_entry-clause-entries g c =

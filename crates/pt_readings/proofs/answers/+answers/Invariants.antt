@@ -1,7 +1,7 @@
 use Rattle.std.proofs.Common.{◌≡◌, ℕ, ◌+◌, ◌*◌, ◌<◌, false, length, take}
 use Rattle.std.specs.Prelude.{nat_lt, ◌==◌, ◌&&◌}
-use Rattle.pt_model.specs.WaitingCall.{at_place, is_arrival}
-use Rattle.pt_model.specs.Found.{passes}
+use Rattle.pt_model.specs.WaitingCall.{call_at_place, is_barrier_wait}
+use Rattle.pt_model.specs.Found.{is_some_and}
 use Rattle.pt_model.specs.Histories.{history}
 use Rattle.pt_model.specs.Answers.{outcome, open_calls}
 use Rattle.pt_readings.proofs.answers.+answers.Given as goal
@@ -30,8 +30,8 @@ decreases-answer_by l = 7 * length l.entries.now + 6
 abbrev pub invariant-has_later-loop-i : goal.invariant-has_later-loop-i
 invariant-has_later-loop-i l =
     (k : ℕ) → k < l.i
-    → passes (λ w. (is_arrival w.role && (w.object == l.b)) && nat_lt l.j w.place)
-    (at_place k (open_calls (history l.entries)))
+    → is_some_and (λ w. (is_barrier_wait w.role && (w.object == l.b)) && nat_lt l.j w.place)
+    (call_at_place k (open_calls (history l.entries)))
     ≡ false
 
 abbrev pub invariant-outcome-loop-i : goal.invariant-outcome-loop-i

@@ -1,6 +1,6 @@
 use Rattle.std.proofs.Common.{sym, ◌∙◌, below_more}
 use Rattle.pt_model.specs.Histories.{history}
-use Rattle.pt_model.specs.Moves.{moved, waits_at, precedes_by}
+use Rattle.pt_model.specs.Moves.{wait_move, is_at_cond, precedes_by}
 use Rattle.pt_readings.specs.Found.{unmoved}
 use Rattle.pt_readings.proofs.Opens.{open-found, open-nowhere}
 use Rattle.pt_readings.proofs.moves.+moves.Goals as goal
@@ -9,7 +9,7 @@ pub is_preceded-returns-then-waits_before : goal.is_preceded-returns-then-waits_
 is_preceded-returns-then-waits_before t c =
     let h = history c.args.entries.now in
     sym (open-found c.args.entries.now (λ v. precedes_by unmoved v c.args.w.now)
-    (waits_at h (moved h) c.args.n.now) c.loop-i.i
+    (is_at_cond h (wait_move h) c.args.n.now) c.loop-i.i
     (sym c.waits_before.ensures ∙ c.if-waits_before.true))
 
 pub is_preceded-loop-i-preserved : goal.is_preceded-loop-i-preserved
@@ -20,4 +20,4 @@ pub is_preceded-returns : goal.is_preceded-returns
 is_preceded-returns t c =
     let h = history c.args.entries.now in
     sym (open-nowhere c.args.entries.now (λ v. precedes_by unmoved v c.args.w.now)
-    (waits_at h (moved h) c.args.n.now) c.loop-i.i c.loop-i-test.false c.loop-i.invariant)
+    (is_at_cond h (wait_move h) c.args.n.now) c.loop-i.i c.loop-i-test.false c.loop-i.invariant)

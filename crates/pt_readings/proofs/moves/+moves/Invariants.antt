@@ -1,10 +1,10 @@
 use Rattle.std.proofs.Common.{◌≡◌, ℕ, ◌+◌, ◌*◌, ◌<◌, false, length, take}
 use Rattle.std.specs.Prelude.{◌&&◌}
 use Rattle.pt_model.specs.Histories.{history}
-use Rattle.pt_model.specs.WaitingCall.{at_place}
+use Rattle.pt_model.specs.WaitingCall.{call_at_place}
 use Rattle.pt_model.specs.Answers.{open_calls}
-use Rattle.pt_model.specs.Moves.{moved, waits_at, precedes_by}
-use Rattle.pt_model.specs.Found.{passes}
+use Rattle.pt_model.specs.Moves.{wait_move, is_at_cond, precedes_by}
+use Rattle.pt_model.specs.Found.{is_some_and}
 use Rattle.pt_readings.specs.Found.{unmoved}
 use Rattle.pt_readings.proofs.moves.+moves.Given as goal
 
@@ -27,10 +27,10 @@ abbrev pub invariant-is_preceded-loop-i : goal.invariant-is_preceded-loop-i
 invariant-is_preceded-loop-i l =
     let h = history l.entries in
     (k : ℕ) → k < l.i
-    → passes (λ v. waits_at h (moved h) l.n v && precedes_by unmoved v l.w)
-    (at_place k (open_calls h))
+    → is_some_and (λ v. is_at_cond h (wait_move h) l.n v && precedes_by unmoved v l.w)
+    (call_at_place k (open_calls h))
     ≡ false
 
 abbrev pub invariant-moved-loop-i : goal.invariant-moved-loop-i
 invariant-moved-loop-i l =
-    l.found ≡ moved (history (take l.i l.entries)) l.j
+    l.found ≡ wait_move (history (take l.i l.entries)) l.j

@@ -3,7 +3,7 @@ use Rattle.std.specs.Prelude.{not, ◌==◌}
 use Rattle.std.specs.List.{list_all}
 use Rattle.pt_model.specs.Histories.{history}
 use Rattle.pt_model.specs.Answers.{open_calls}
-use Rattle.pt_model.specs.Moves.{at_object, precedes}
+use Rattle.pt_model.specs.Moves.{wait_object, precedes}
 use Rattle.pt_readings.proofs.Opens.{all-found, all-nowhere}
 use Rattle.pt_readings.proofs.moves.is_least.Goals as goal
 
@@ -12,10 +12,10 @@ returns-then-is_ahead c =
     let h = history c.args.entries.now in
     let w = c.args.w.now in
     sym (ap
-    (λ o. list_all (λ v. not (precedes h v w)) (filter (λ v. at_object h v == o) (open_calls h)))
-    (sym c.at_object-o.ensures)
+    (λ o. list_all (λ v. not (precedes h v w)) (filter (λ v. wait_object h v == o) (open_calls h)))
+    (sym c.wait_object-o.ensures)
     ∙ all-found c.args.entries.now (λ v. precedes h v w)
-    (λ v. at_object h v == c.at_object-o.result) c.loop-i.i
+    (λ v. wait_object h v == c.wait_object-o.result) c.loop-i.i
     (sym c.is_ahead.ensures ∙ c.if-is_ahead.true))
 
 pub loop-i-preserved : goal.loop-i-preserved
@@ -27,8 +27,8 @@ returns c =
     let h = history c.args.entries.now in
     let w = c.args.w.now in
     sym (ap
-    (λ o. list_all (λ v. not (precedes h v w)) (filter (λ v. at_object h v == o) (open_calls h)))
-    (sym c.at_object-o.ensures)
+    (λ o. list_all (λ v. not (precedes h v w)) (filter (λ v. wait_object h v == o) (open_calls h)))
+    (sym c.wait_object-o.ensures)
     ∙ all-nowhere c.args.entries.now (λ v. precedes h v w)
-    (λ v. at_object h v == c.at_object-o.result) c.loop-i.i c.loop-i-test.false
+    (λ v. wait_object h v == c.wait_object-o.result) c.loop-i.i c.loop-i-test.false
     c.loop-i.invariant)

@@ -1,10 +1,10 @@
 use Rattle.std.proofs.Common.{◌≡◌, ◌≤◌, take}
 use Rattle.pt_model.specs.Histories.{history}
-use Rattle.pt_model.specs.Objects.{objects}
+use Rattle.pt_model.specs.Objects.{object_count}
 use Rattle.pt_readings.proofs.objects.objects.Given as goal
 
 abbrev pub invariant-loop-entry : goal.invariant-loop-entry
 invariant-loop-entry l = record {
-  value : l.count ≡ objects (history (take l.entry-index l.entries));
+  value : l.count ≡ object_count (history (take l.entry-index l.entries));
   small : l.count ≤ l.entry-index;
 }

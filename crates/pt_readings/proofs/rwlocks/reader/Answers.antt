@@ -1,16 +1,16 @@
 use Rattle.std.proofs.Common.{sym, ap, ◌∙◌, arith, below_more}
 use Rattle.std.specs.Prelude.{nat_lt}
-use Rattle.pt_model.specs.Rwlocks.{reads}
+use Rattle.pt_model.specs.Rwlocks.{read_count}
 use Rattle.std.proofs.lemmas.Bool.{lt-ltb, le-ltb}
 use Rattle.pt_model.specs.Histories.{history, place}
-use Rattle.pt_readings.proofs.Past.{place_all}
+use Rattle.pt_readings.proofs.Prefix.{place_all}
 use Rattle.pt_model.proofs.FirstBelow.{first_below-none, first_below-at}
 use Rattle.pt_readings.proofs.rwlocks.reader.Goals as goal
 
 pub returns-then-reads-gt0 : goal.returns-then-reads-gt0
 returns-then-reads-gt0 c =
     let h = history c.args.entries.now in
-    sym (first_below-at (λ k. nat_lt 0 (reads h c.args.r k)) (place h) c.loop-i.i
+    sym (first_below-at (λ k. nat_lt 0 (read_count h c.args.r k)) (place h) c.loop-i.i
     (omega (arith, place_all c.args.entries.now)) c.loop-i.invariant
     (ap (nat_lt 0) (sym c.reads.ensures.value) ∙ lt-ltb 0 c.reads.result c.if-reads-gt0.true))
 
@@ -22,5 +22,5 @@ loop-i-preserved c =
 pub returns : goal.returns
 returns c =
     let h = history c.args.entries.now in
-    sym (first_below-none (λ k. nat_lt 0 (reads h c.args.r k)) (place h)
+    sym (first_below-none (λ k. nat_lt 0 (read_count h c.args.r k)) (place h)
     (λ k lt. c.loop-i.invariant k (omega (arith, place_all c.args.entries.now))))

@@ -1,9 +1,9 @@
 use Rattle.std.proofs.Common.{◌≡◌, ℕ, ◌<◌, false}
 use Rattle.std.specs.Prelude.{nat_lt}
-use Rattle.pt_model.specs.Rwlocks.{reads}
+use Rattle.pt_model.specs.Rwlocks.{read_count}
 use Rattle.pt_model.specs.Histories.{history}
 use Rattle.pt_readings.proofs.rwlocks.reader.Given as goal
 
 abbrev pub invariant-loop-i : goal.invariant-loop-i
 invariant-loop-i l =
-    (k : ℕ) → k < l.i → nat_lt 0 (reads (history l.entries) l.r k) ≡ false
+    (k : ℕ) → k < l.i → nat_lt 0 (read_count (history l.entries) l.r k) ≡ false

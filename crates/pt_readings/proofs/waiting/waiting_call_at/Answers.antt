@@ -8,5 +8,5 @@ returns-then-j-entries c = sym (waiting_past c.args.entries.now c.args.j c.if-j-
 pub returns : goal.returns
 returns c =
     waiting_here c.args.entries.now c.args.j c.index-entries-i.result
-    c.stood_by.result c.if-j-entries.false c.index-entries-i.is
-    c.stood_by.ensures
+    c.waiting_calls_by.result c.if-j-entries.false c.index-entries-i.is
+    c.waiting_calls_by.ensures

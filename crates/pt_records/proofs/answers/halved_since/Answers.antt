@@ -2,7 +2,7 @@ use Rattle.std.proofs.Common.{◌≡◌, ◌+◌, ◌-◌, ◌/◌, ◌<◌, ◌
 use Rattle.std.proofs.Common.{take, drop}
 use Rattle.std.proofs.Math.ListN.{drop_of_length-le}
 use Rattle.pt_records.specs.AnswerLogs.{no_answer}
-use Rattle.pt_records.proofs.LogParts.{AllSince, NoneSince, none-since, all-since, since-between}
+use Rattle.pt_records.proofs.LogParts.{AllSince, NoneSince, none-log_since, all-log_since, log_since-between}
 use Rattle.pt_records.proofs.answers.halved_since.Goals as goal
 
 pub loop-low-init : goal.loop-low-init
@@ -25,7 +25,7 @@ loop-low-preserved-then-given_at-place g c =
       order = omega (arith, c.loop-low-test.true);
       within = c.loop-low.invariant.within;
       none = subst (λ k. NoneSince c.args.place (take k xs)) same
-          (none-since c.args.place i xs no_answer c.requires
+          (none-log_since c.args.place i xs no_answer c.requires
           (omega (arith, c.loop-low-test.true, c.loop-low.invariant.within))
           (subst (λ k. k < c.args.place) c.given_at.ensures
           c.if-given_at-place.true));
@@ -40,7 +40,7 @@ loop-low-preserved g c =
       order = omega arith;
       within = omega (arith, c.loop-low-test.true, c.loop-low.invariant.within);
       none = c.loop-low.invariant.none;
-      all = all-since c.args.place i xs no_answer c.requires
+      all = all-log_since c.args.place i xs no_answer c.requires
           (omega (arith, c.loop-low-test.true, c.loop-low.invariant.within))
           (subst (λ k. c.args.place ≤ k) c.given_at.ensures
           c.if-given_at-place.false);
@@ -51,5 +51,5 @@ returns-clause-rest g c =
     let xs = c.args.answers.now.items in
     let same : c.loop-low.high ≡ c.loop-low.low
     = omega (arith, c.loop-low-test.false, c.loop-low.invariant.order) in
-    since-between c.args.place c.loop-low.low xs c.loop-low.invariant.none
+    log_since-between c.args.place c.loop-low.low xs c.loop-low.invariant.none
     (subst (λ k. AllSince c.args.place (drop k xs)) same c.loop-low.invariant.all)

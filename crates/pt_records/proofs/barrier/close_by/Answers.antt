@@ -1,7 +1,7 @@
 use Rattle.std.proofs.Common.{ap, ◌∙◌}
 use Rattle.pt_table.specs.ClientRows.{client_value}
 use Rattle.pt_records.specs.declared.answers.Answered.{Answered}
-use Rattle.pt_records.specs.Arrivals.{closed_by}
+use Rattle.pt_records.specs.Arrivals.{caller_after_reply}
 use Rattle.pt_records.proofs.TripLemmas.{closes-client}
 use Rattle.pt_records.proofs.CallerWrites.{changes-none}
 use Rattle.pt_records.proofs.barrier.close_by.Goals as goal
@@ -14,6 +14,6 @@ returns-in-Some g c =
 
 pub returns-in_default : goal.returns-in_default
 returns-in_default g c =
-    changes-none (closed_by c.args.answer.now) c.args.clients.now c.args.answer.now.client
+    changes-none (caller_after_reply c.args.answer.now) c.args.clients.now c.args.answer.now.client
     (c.in_default.ensures.value
     ∙ ap (λ (a : Answered). client_value c.args.clients.now a.client) c.answer.view_is)

@@ -1,4 +1,4 @@
-use Rattle.pt_records.specs.Arrivals.{arrived}
+use Rattle.pt_records.specs.Arrivals.{caller_after_arrival}
 use Rattle.pt_records.proofs.CallerWrites.{writes-by}
 use Rattle.pt_records.proofs.RowKinds.{no-client}
 use Rattle.pt_records.proofs.calls.arrive.Goals as goal
@@ -6,7 +6,8 @@ use Rattle.pt_records.proofs.calls.arrive.Goals as goal
 pub returns-in-Some : goal.returns-in-Some
 returns-in-Some g c =
     rw (c.level.ensures.value, ← c.c.view_is)
-    (writes-by (arrived c.args.place c.c.inside.0 c.args.b c.args.clock) c.args.clients.now
+    (writes-by (caller_after_arrival c.args.place c.c.inside.0 c.args.b c.args.clock)
+    c.args.clients.now
     c.c.inside.0 c.in-Some.row.now c.in-Some.ensures.value)
 
 pub returns-in_default : goal.returns-in_default

@@ -1,5 +1,5 @@
 use Rattle.std.proofs.Common.{Some}
-use Rattle.pt_records.specs.Callers.{called_at}
+use Rattle.pt_records.specs.Callers.{caller_after_call}
 use Rattle.pt_records.proofs.CallerWrites.{writes-by}
 use Rattle.pt_records.proofs.RowKinds.{no-client}
 use Rattle.pt_records.proofs.clients.note_call.Goals as goal
@@ -7,7 +7,7 @@ use Rattle.pt_records.proofs.clients.note_call.Goals as goal
 pub returns-in-Some : goal.returns-in-Some
 returns-in-Some g c =
     rw (← c.c.view_is)
-    (writes-by (called_at c.args.place (Some c.args.answer)) c.args.clients.now c.c.inside.0
+    (writes-by (caller_after_call c.args.place (Some c.args.answer)) c.args.clients.now c.c.inside.0
     c.in-Some.row.now c.in-Some.ensures.value)
 
 pub returns-in_default : goal.returns-in_default

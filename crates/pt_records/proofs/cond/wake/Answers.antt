@@ -1,4 +1,4 @@
-use Rattle.pt_records.specs.Callers.{moved_at}
+use Rattle.pt_records.specs.Callers.{caller_after_move}
 use Rattle.pt_records.proofs.CallerWrites.{writes-by}
 use Rattle.pt_records.proofs.RowKinds.{no-client}
 use Rattle.pt_records.proofs.cond.wake.Goals as goal
@@ -7,7 +7,8 @@ pub returns-in-Some : goal.returns-in-Some
 returns-in-Some g c =
     rw c.move_open.ensures
     (rw (← c.c.view_is)
-    (writes-by (moved_at c.args.at c.args.cause) c.args.clients.now c.c.inside.0 c.in-Some.row.now
+    (writes-by (caller_after_move c.args.at c.args.cause) c.args.clients.now c.c.inside.0
+    c.in-Some.row.now
     c.in-Some.ensures.value))
 
 pub returns-in_default : goal.returns-in_default

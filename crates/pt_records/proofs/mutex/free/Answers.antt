@@ -1,4 +1,4 @@
-use Rattle.pt_mutex.specs.MutexState.{yielded}
+use Rattle.pt_mutex.specs.MutexState.{mutex_after_yield}
 use Rattle.pt_records.specs.declared.objects.Object.TheVariants.{Mutex}
 use Rattle.pt_records.proofs.ChainsKept.{keeps-written}
 use Rattle.pt_records.proofs.ObjectChanges.{writes-mutex}
@@ -8,7 +8,8 @@ use Rattle.pt_records.proofs.mutex.free.Goals as goal
 pub returns-in-Mutex-clause-mutex : goal.returns-in-Mutex-clause-mutex
 returns-in-Mutex-clause-mutex g c =
     rw (← c.m.view_is)
-    (writes-mutex (λ x. record x { seen = yielded x.seen }) c.args.objects.now c.m.inside.0
+    (writes-mutex (λ x. record x { view = mutex_after_yield x.view }) c.args.objects.now
+    c.m.inside.0
     c.in-Some.object.now c.in-Mutex.mutex c.yield_dead.new.self
     c.in-Some.ensures.value c.in-Mutex.is
     c.yield_dead.ensures)

@@ -1,4 +1,4 @@
-use Rattle.pt_mutex.specs.MutexState.{acquired}
+use Rattle.pt_mutex.specs.MutexState.{mutex_after_acquire}
 use Rattle.pt_records.specs.declared.objects.Object.TheVariants.{Mutex}
 use Rattle.pt_records.proofs.ChainsKept.{keeps-written}
 use Rattle.pt_records.proofs.ObjectChanges.{writes-mutex}
@@ -8,7 +8,7 @@ use Rattle.pt_records.proofs.mutex.lock.Goals as goal
 pub returns-in-Mutex-clause-mutex : goal.returns-in-Mutex-clause-mutex
 returns-in-Mutex-clause-mutex g c =
     rw (← c.m.view_is)
-    (writes-mutex (λ x. record x { seen = acquired x.seen c.args.c }) c.args.objects.now
+    (writes-mutex (λ x. record x { view = mutex_after_acquire x.view c.args.c }) c.args.objects.now
     c.m.inside.0 c.in-Some.object.now c.in-Mutex.mutex c.acquire.new.self
     c.in-Some.ensures.value c.in-Mutex.is c.acquire.ensures)
 
@@ -18,7 +18,7 @@ returns-in-Mutex-clause-chains g c =
 
 pub acquire-requires : goal.acquire-requires
 acquire-requires g c =
-    c.requires.may c.in-Mutex.mutex
+    c.requires.allowed c.in-Mutex.mutex
     (object-found c.args.objects.now c.m.inside.0 c.args.m c.m.view_is c.in-Some.object.now
     c.in-Some.ensures.value (Mutex c.in-Mutex.mutex) c.in-Mutex.is)
 

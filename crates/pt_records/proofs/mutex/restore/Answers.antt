@@ -1,4 +1,4 @@
-use Rattle.pt_mutex.specs.MutexState.{restored}
+use Rattle.pt_mutex.specs.MutexState.{mutex_after_consistent}
 use Rattle.pt_records.specs.declared.objects.Object.TheVariants.{Mutex}
 use Rattle.pt_records.proofs.ChainsKept.{keeps-written}
 use Rattle.pt_records.proofs.ObjectChanges.{writes-mutex}
@@ -8,7 +8,8 @@ use Rattle.pt_records.proofs.mutex.restore.Goals as goal
 pub returns-in-Mutex-clause-mutex : goal.returns-in-Mutex-clause-mutex
 returns-in-Mutex-clause-mutex g c =
     rw (← c.m.view_is)
-    (writes-mutex (λ x. record x { seen = restored x.seen }) c.args.objects.now c.m.inside.0
+    (writes-mutex (λ x. record x { view = mutex_after_consistent x.view }) c.args.objects.now
+    c.m.inside.0
     c.in-Some.object.now c.in-Mutex.mutex c.mark_consistent.new.self
     c.in-Some.ensures.value c.in-Mutex.is
     c.mark_consistent.ensures)

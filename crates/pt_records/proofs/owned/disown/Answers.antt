@@ -1,5 +1,5 @@
 use Rattle.pt_records.proofs.Owning.{owned-less}
-use Rattle.pt_records.proofs.Unowned.{unowned-with}
+use Rattle.pt_records.proofs.WithoutOwned.{rows_without_owned-with}
 use Rattle.pt_records.proofs.RowKinds.{client-found, no-client, no-head, chain-of}
 use Rattle.pt_records.proofs.owned.disown.Goals as goal
 
@@ -18,7 +18,8 @@ returns-in-Some-owned-clause-owned g c =
 pub returns-in-Some-owned-clause-clients : goal.returns-in-Some-owned-clause-clients
 returns-in-Some-owned-clause-clients g c =
     λ once.
-    unowned-with c.args.clients.now c.c.inside.0 c.in-Some.row.now c.unlink-row.result once
+    rows_without_owned-with c.args.clients.now c.c.inside.0 c.in-Some.row.now c.unlink-row.result
+    once
     c.in-Some.ensures.value
 
 pub unlink-row-requires : goal.unlink-row-requires

@@ -2,7 +2,7 @@ use Rattle.std.proofs.Common.{Some, ap, ◌∙◌}
 use Rattle.pt_table.specs.ObjectRows.{has_object}
 use Rattle.pt_table.specs.Linked.{is_linked}
 use Rattle.pt_records.proofs.Owning.{owned-more}
-use Rattle.pt_records.proofs.Unowned.{unowned-with}
+use Rattle.pt_records.proofs.WithoutOwned.{rows_without_owned-with}
 use Rattle.pt_records.proofs.RowKinds.{client-found, no-client}
 use Rattle.pt_records.proofs.owned.own.Goals as goal
 
@@ -20,7 +20,8 @@ returns-in-Some-clause-owned g c =
 pub returns-in-Some-clause-clients : goal.returns-in-Some-clause-clients
 returns-in-Some-clause-clients g c =
     λ once.
-    unowned-with c.args.clients.now c.c.inside.0 c.in-Some.row.now (Some c.link.result) once
+    rows_without_owned-with c.args.clients.now c.c.inside.0 c.in-Some.row.now
+    (Some c.link.result) once
     c.in-Some.ensures.value
 
 pub link-requires-clause-chain : goal.link-requires-clause-chain
@@ -30,7 +31,7 @@ link-requires-clause-chain g c =
     c.in-Some.ensures.value)
 
 pub link-requires-clause-row : goal.link-requires-clause-row
-link-requires-clause-row g c = ap (has_object c.args.objects.now) c.m.view_is ∙ c.requires.there
+link-requires-clause-row g c = ap (has_object c.args.objects.now) c.m.view_is ∙ c.requires.exists
 
 pub link-requires-clause-free : goal.link-requires-clause-free
 link-requires-clause-free g c = ap (is_linked c.args.objects.now) c.m.view_is ∙ c.requires.free

@@ -19,7 +19,7 @@ returns-in-Rwlock-clause-chains g c =
 
 pub acquire_read-requires : goal.acquire_read-requires
 acquire_read-requires g c =
-    c.requires.may c.in-Rwlock.lock
+    c.requires.allowed c.in-Rwlock.lock
     (object-found c.args.objects.now c.r.inside.0 c.args.r c.r.view_is c.in-Some.object.now
     c.in-Some.ensures.value (Rwlock c.in-Rwlock.lock) c.in-Rwlock.is)
 

@@ -1,12 +1,12 @@
 use Rattle.std.proofs.Common.{sym, ◌∙◌, below_more, arith}
-use Rattle.pt_types.specs.RwlockTable.{holds}
-use Rattle.pt_rwlock.specs.RwlockState.{seen_by}
-use Rattle.pt_records.proofs.HeldAlive.{number-at, number-nowhere}
+use Rattle.pt_types.specs.RwlockTable.{has_lock}
+use Rattle.pt_rwlock.specs.RwlockState.{view_for}
+use Rattle.pt_records.proofs.LivingHolders.{number-at, number-nowhere}
 use Rattle.pt_records.proofs.rwlock.any_holds.Goals as goal
 
 pub returns-then-holds_lock : goal.returns-then-holds_lock
 returns-then-holds_lock g c =
-    sym (number-at (λ n. holds (seen_by c.args.lock.now n)) c.args.clients.now c.loop-i.i
+    sym (number-at (λ n. has_lock (view_for c.args.lock.now n)) c.args.clients.now c.loop-i.i
     (sym c.holds_lock.ensures ∙ c.if-holds_lock.true))
 
 pub loop-i-preserved : goal.loop-i-preserved
@@ -15,5 +15,5 @@ loop-i-preserved g c =
 
 pub returns : goal.returns
 returns g c =
-    sym (number-nowhere (λ n. holds (seen_by c.args.lock.now n)) c.args.clients.now
+    sym (number-nowhere (λ n. has_lock (view_for c.args.lock.now n)) c.args.clients.now
     (λ k lt. c.loop-i.invariant k (omega (arith, c.len-i-end.ensures.len))))

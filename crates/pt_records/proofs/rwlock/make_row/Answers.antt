@@ -6,13 +6,13 @@ use Rattle.pt_records.proofs.ObjectChanges.{writes-lock, whenever-err}
 use Rattle.pt_records.proofs.RowKinds.{no-lock, no-object, lock-changed}
 use Rattle.pt_records.proofs.rwlock.make_row.Goals as goal
 
-pub returns-in_err-make_row-clause-err : goal.returns-in_err-make_row-clause-err
-returns-in_err-make_row-clause-err g c =
+pub returns-in_err-make_row-clause-unchanged : goal.returns-in_err-make_row-clause-unchanged
+returns-in_err-make_row-clause-unchanged g c =
     rw (← c.r.view_is)
     (λ x e.
     whenever-err c.from_residual.result
     (writes-lock (λ x. x) c.args.objects.now c.r.inside.0 c.in-Some.object.now c.in-Rwlock.lock
-    c.make_row.new.self c.in-Some.ensures.value c.in-Rwlock.is c.in_err-make_row.ensures.err x e))
+    c.make_row.new.self c.in-Some.ensures.value c.in-Rwlock.is c.in_err-make_row.ensures.unchanged x e))
 
 pub returns-in_ok-make_row-clause-ok : goal.returns-in_ok-make_row-clause-ok
 returns-in_ok-make_row-clause-ok g c =
@@ -44,10 +44,10 @@ returns-in_default-object g c =
     record {
       ok = λ x e. absurd (other x e);
       row = λ x e. absurd (other x e);
-      again = λ x e. absurd (other x e);
-      err = λ x e. absurd (other x e);
+      relock = λ x e. absurd (other x e);
+      unchanged = λ x e. absurd (other x e);
       chains = λ x e. absurd (other x e);
-      reason = tt;
+      err = tt;
     }
 
 pub returns-in_default-clause-ok : goal.returns-in_default-clause-ok

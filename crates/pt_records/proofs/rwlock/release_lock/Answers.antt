@@ -1,6 +1,6 @@
 use Rattle.std.proofs.Common.{◌≡◌, ◌-◌, Some, false}
-use Rattle.pt_rwlock.specs.RwlockState.{released, ChangesRow, reads_of}
-use Rattle.pt_types.specs.MutexTable.{is_number}
+use Rattle.pt_rwlock.specs.RwlockState.{rwlock_after_release, ChangesRow, reads_of}
+use Rattle.pt_types.specs.MutexTable.{is_some_number}
 use Rattle.pt_records.specs.declared.objects.Object.TheVariants.{Rwlock}
 use Rattle.pt_records.proofs.ChainsKept.{keeps-written}
 use Rattle.pt_records.proofs.ObjectChanges.{writes-lock}
@@ -10,7 +10,7 @@ use Rattle.pt_records.proofs.rwlock.release_lock.Goals as goal
 pub returns-in-Rwlock-clause-lock : goal.returns-in-Rwlock-clause-lock
 returns-in-Rwlock-clause-lock g c =
     rw (← c.r.view_is)
-    (writes-lock (λ x. released x c.args.c) c.args.objects.now c.r.inside.0
+    (writes-lock (λ x. rwlock_after_release x c.args.c) c.args.objects.now c.r.inside.0
     c.in-Some.object.now c.in-Rwlock.lock c.release.new.self c.in-Some.ensures.value
     c.in-Rwlock.is c.release.ensures.change)
 
@@ -20,7 +20,7 @@ returns-in-Rwlock-clause-chains g c =
 
 pub release-requires : goal.release-requires
 release-requires g c =
-    c.requires.held c.in-Rwlock.lock
+    c.requires.holder c.in-Rwlock.lock
     (object-found c.args.objects.now c.r.inside.0 c.args.r c.r.view_is c.in-Some.object.now
     c.in-Some.ensures.value (Rwlock c.in-Rwlock.lock) c.in-Rwlock.is)
 
@@ -28,9 +28,9 @@ pub returns-in-Rwlock-clause-row : goal.returns-in-Rwlock-clause-row
 returns-in-Rwlock-clause-row g c =
     lock-changed c.args.objects.now c.r.inside.0 c.args.r c.r.view_is c.in-Some.object.now
     c.in-Some.ensures.value
-    (λ x z. is_number x.writer c.args.c ≡ false
+    (λ x z. is_some_number x.writer c.args.c ≡ false
     → ChangesRow x z c.args.c (Some (reads_of x c.args.c - 1)))
-    (λ x. released x c.args.c) c.in-Rwlock.lock c.release.new.self c.in-Rwlock.is
+    (λ x. rwlock_after_release x c.args.c) c.in-Rwlock.lock c.release.new.self c.in-Rwlock.is
     c.release.ensures.change c.release.ensures.row
 
 pub returns-in_default-object : goal.returns-in_default-object

@@ -2,15 +2,15 @@ use Rattle.std.proofs.Common.{sym, ap, is_some, ◌∙◌, arith, below_more}
 use Rattle.std.specs.Prelude.{nat_lt}
 use Rattle.std.proofs.lemmas.Bool.{lt-ltb, le-ltb}
 use Rattle.pt_model.specs.Histories.{history, place, ◌▷◌}
-use Rattle.pt_model.specs.Mutexes.{count}
-use Rattle.pt_readings.proofs.Past.{place_all}
+use Rattle.pt_model.specs.Mutexes.{mutex_count}
+use Rattle.pt_readings.proofs.Prefix.{place_all}
 use Rattle.pt_model.proofs.FirstBelow.{first_below-none, first_below-at}
 use Rattle.pt_reference.proofs.after.is_owned.Goals as goal
 
 pub returns-then-count-gt0 : goal.returns-then-count-gt0
 returns-then-count-gt0 c =
     let h = history c.args.entries.now ▷ c.args.entry.now in
-    sym (ap is_some (first_below-at (λ k. nat_lt 0 (count h c.args.m k)) (place h) c.loop-i.i
+    sym (ap is_some (first_below-at (λ k. nat_lt 0 (mutex_count h c.args.m k)) (place h) c.loop-i.i
     (omega (arith, place_all c.args.entries.now)) c.loop-i.invariant
     (ap (nat_lt 0) (sym c.count.ensures) ∙ lt-ltb 0 c.count.result c.if-count-gt0.true)))
 
@@ -22,5 +22,5 @@ loop-i-preserved c =
 pub returns : goal.returns
 returns c =
     let h = history c.args.entries.now ▷ c.args.entry.now in
-    sym (ap is_some (first_below-none (λ k. nat_lt 0 (count h c.args.m k)) (place h)
+    sym (ap is_some (first_below-none (λ k. nat_lt 0 (mutex_count h c.args.m k)) (place h)
     (λ k lt. c.loop-i.invariant k (omega (arith, place_all c.args.entries.now)))))

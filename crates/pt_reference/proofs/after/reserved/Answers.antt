@@ -16,7 +16,7 @@ loop-i-preserved c =
     record {
       value = both ◌+◌ c.loop-i.invariant.value c.reserved_at-total.ensures.value
           ∙ sym (reserved_more h c.loop-i.i);
-      small = omega (arith, c.reserved_at-total.ensures.small);
+      small = omega (arith, c.reserved_at-total.ensures.within);
     }
 
 pub returns-clause-value : goal.returns-clause-value

@@ -1,6 +1,6 @@
 use Rattle.std.proofs.Common.{◌≡◌, sym, ap, filter, ◌∙◌, arith}
 use Rattle.pt_model.specs.Searches.{least}
-use Rattle.pt_model.specs.Forced.{is_served_before, is_served}
+use Rattle.pt_model.specs.Forced.{is_served_before, can_be_served}
 use Rattle.pt_model.specs.Histories.{history}
 use Rattle.pt_model.specs.Answers.{open_calls}
 use Rattle.pt_model.proofs.Ascending.{from}
@@ -15,18 +15,18 @@ loop-i-init c =
     record {
       within = omega arith;
       value = sym (ap
-          (λ ws. least (is_served_before h) (filter (is_served h) ws))
+          (λ ws. least (is_served_before h) (filter (can_be_served h) ws))
           (open_from_all c.args.entries.now));
     }
 
 pub loop-i-preserved : goal.loop-i-preserved
 loop-i-preserved c =
     let h = history c.args.entries.now in
-    let less = least-less h (is_served_before h) (is_served h) c.loop-i.i c.loop-i-test.true in
+    let less = least-less h (is_served_before h) (can_be_served h) c.loop-i.i c.loop-i-test.true in
     record {
       within = omega arith;
       value = c.better_served-best.ensures
-          ∙ both (best_of (is_served_before h)) c.served_at.ensures c.loop-i.invariant.value
+          ∙ both (best_of (is_served_before h)) c.served_call.ensures c.loop-i.invariant.value
           ∙ sym less;
     }
 
@@ -35,5 +35,5 @@ returns c =
     let h = history c.args.entries.now in
     let first : c.loop-i.i ≡ 0 = omega arith in
     c.loop-i.invariant.value
-    ∙ ap (λ k. least (is_served_before h) (filter (is_served h) (from k (open_calls h)))) first
-    ∙ ap (λ ws. least (is_served_before h) (filter (is_served h) ws)) (open_from_none h)
+    ∙ ap (λ k. least (is_served_before h) (filter (can_be_served h) (from k (open_calls h)))) first
+    ∙ ap (λ ws. least (is_served_before h) (filter (can_be_served h) ws)) (open_from_none h)

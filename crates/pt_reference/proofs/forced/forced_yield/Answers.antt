@@ -1,7 +1,7 @@
 use Rattle.std.proofs.Common.{sym, ap, ◌∙◌, arith, below_more}
 use Rattle.pt_model.specs.Forced.{is_orphan, yield_if}
 use Rattle.pt_model.specs.Histories.{history, place}
-use Rattle.pt_readings.proofs.Past.{place_all}
+use Rattle.pt_readings.proofs.Prefix.{place_all}
 use Rattle.pt_model.proofs.FirstBelow.{first_below-none, first_below-at}
 use Rattle.pt_reference.proofs.forced.forced_yield.Goals as goal
 

@@ -1,14 +1,14 @@
 use Rattle.std.proofs.Common.{◌≡◌, ◌-◌, sym, ap, filter, ◌∙◌, arith}
 use Rattle.std.specs.Prelude.{◌==◌}
-use Rattle.pt_model.specs.Moves.{at_object}
-use Rattle.pt_model.specs.Verdicts.{bound_by}
+use Rattle.pt_model.specs.Moves.{wait_object}
+use Rattle.pt_model.specs.Verdicts.{bound_mutex}
 use Rattle.pt_model.specs.Histories.{history}
 use Rattle.pt_model.specs.Answers.{open_calls}
 use Rattle.pt_model.proofs.Ascending.{from}
 use Rattle.pt_readings.proofs.Opens.{open_from_all, open_from_none}
 use Rattle.pt_reference.specs.Best.{awaited_or}
-use Rattle.pt_model.specs.Found.{keep}
-use Rattle.pt_model.specs.WaitingCall.{at_place}
+use Rattle.pt_model.specs.Found.{option_filter}
+use Rattle.pt_model.specs.WaitingCall.{call_at_place}
 use Rattle.pt_reference.proofs.Ends.{bound-less}
 use Rattle.pt_reference.proofs.verdicts.bound.Goals as goal
 
@@ -18,20 +18,21 @@ loop-i-init c =
     record {
       within = omega arith;
       value = sym (ap
-          (λ ws. bound_by (filter (λ w. at_object h w == c.args.q) ws))
+          (λ ws. bound_mutex (filter (λ w. wait_object h w == c.args.q) ws))
           (open_from_all c.args.entries.now));
     }
 
 pub loop-i-preserved : goal.loop-i-preserved
 loop-i-preserved c =
     let h = history c.args.entries.now in
-    let less = bound-less h (λ w. at_object h w == c.args.q) c.loop-i.i c.loop-i-test.true in
+    let less = bound-less h (λ w. wait_object h w == c.args.q) c.loop-i.i c.loop-i-test.true in
     record {
       within = omega arith;
       value = c.awaited_at-found.ensures
           ∙ ap
           (awaited_or
-          (keep (λ w. at_object h w == c.args.q) (at_place (c.loop-i.i - 1) (open_calls h))))
+          (option_filter (λ w. wait_object h w == c.args.q) (call_at_place (c.loop-i.i - 1)
+          (open_calls h))))
           c.loop-i.invariant.value
           ∙ sym less;
     }
@@ -41,5 +42,6 @@ returns c =
     let h = history c.args.entries.now in
     let first : c.loop-i.i ≡ 0 = omega arith in
     c.loop-i.invariant.value
-    ∙ ap (λ k. bound_by (filter (λ w. at_object h w == c.args.q) (from k (open_calls h)))) first
-    ∙ ap (λ ws. bound_by (filter (λ w. at_object h w == c.args.q) ws)) (open_from_none h)
+    ∙ ap (λ k. bound_mutex (filter (λ w. wait_object h w == c.args.q) (from k
+    (open_calls h)))) first
+    ∙ ap (λ ws. bound_mutex (filter (λ w. wait_object h w == c.args.q) ws)) (open_from_none h)

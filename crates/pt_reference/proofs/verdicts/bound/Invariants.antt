@@ -1,7 +1,7 @@
 use Rattle.std.proofs.Common.{◌≡◌, ◌≤◌, filter, length}
 use Rattle.std.specs.Prelude.{◌==◌}
-use Rattle.pt_model.specs.Moves.{at_object}
-use Rattle.pt_model.specs.Verdicts.{bound_by}
+use Rattle.pt_model.specs.Moves.{wait_object}
+use Rattle.pt_model.specs.Verdicts.{bound_mutex}
 use Rattle.pt_model.specs.Histories.{history}
 use Rattle.pt_model.specs.Answers.{open_calls}
 use Rattle.pt_model.proofs.Ascending.{from}
@@ -13,7 +13,7 @@ invariant-loop-i l =
     record {
       within : l.i ≤ length l.entries;
       value : l.found
-          ≡ bound_by (filter (λ w. at_object h w == l.q) (from l.i (open_calls h)));
+          ≡ bound_mutex (filter (λ w. wait_object h w == l.q) (from l.i (open_calls h)));
     }
 
 abbrev pub decreases-loop-i : goal.decreases-loop-i

@@ -8,4 +8,4 @@ returns-then-is_due g c =
     c.moment.new.pass c.in-Some.ensures
     (due c.args.clock _ c.in-Some.now c.least_deadline.ensures.value
     (sym c.is_due.ensures ∙ c.if-is_due.true))
-    c.moment.ensures.told c.moment.ensures.unchanged
+    c.moment.ensures.pass c.moment.ensures.unchanged

@@ -1,5 +1,5 @@
 use Rattle.std.proofs.Common.{◌-◌, ◌++◌, take, sym, ap, ◌∙◌, subst, append-nil, arith}
-use Rattle.pt_session.specs.Outputs.{IsBroken, IsCutShort}
+use Rattle.pt_session.specs.Outputs.{IsBroken, IsPartlyTaken}
 use Rattle.pt_serve.proofs.Begun.{begun, grown, joined}
 use Rattle.pt_serve.proofs.output.put.Goals as goal
 
@@ -12,7 +12,7 @@ returns-then-n-eq0-clause-begun g c =
     c.put_some-n.ensures.taken.1
     ∙ ap (λ k. text ++ take k rest) c.if-n-eq0.true
     ∙ append-nil text in
-    subst (IsCutShort old c.args.bytes.now) (sym same)
+    subst (IsPartlyTaken old c.args.bytes.now) (sym same)
     (begun old c.args.bytes.now text rest c.loop-rest.invariant.taken c.loop-rest.invariant.grows)
 
 pub returns-then-n-eq0-clause-cause : goal.returns-then-n-eq0-clause-cause

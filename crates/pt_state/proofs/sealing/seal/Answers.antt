@@ -1,9 +1,9 @@
 use Rattle.std.proofs.Common.{refl, ap, ◌∙◌, length, List, sym, subst, ◌≤◌, ℕ}
-use Rattle.pt_types.specs.Limits.{most_places}
+use Rattle.pt_types.specs.Limits.{max_place}
 use Rattle.pt_table.specs.declared.objects.ObjectRow.{ObjectRow}
-use Rattle.pt_model.specs.StartRows.{reads_of}
+use Rattle.pt_model.specs.StartRows.{start_of_rows}
 use Rattle.pt_model.specs.Starts.{Start}
-use Rattle.pt_history.specs.Stored.{past_of}
+use Rattle.pt_history.specs.Stored.{stored_history}
 use Rattle.pt_records.specs.declared.objects.Object.{Object}
 use Rattle.pt_state.specs.Reads.{Reads}
 use Rattle.pt_state.proofs.SealedTables.{tables-sealed}
@@ -17,31 +17,31 @@ returns-clause-ok g c =
       objects = c.pack.new.self;
       answers = c.clear.new.self;
     } in
-    let starts = ap (λ s. reads_of s.start) c.seal.ensures ∙ c.in_ok-start.ensures.reads in
+    let starts = ap (λ s. start_of_rows s.start) c.seal.ensures ∙ c.in_ok-start.ensures.reads in
     let entries = ap (λ s. s.entries) c.seal.ensures in
     record {
       starts = starts;
       entries = entries;
       limit = ap (λ s. s.limit) c.seal.ensures;
       room = ap (λ s. s.room) c.seal.ensures;
-      read = tables-sealed old new c.requires.read starts entries refl c.pack.ensures refl
+      read = tables-sealed old new c.requires.tables starts entries refl c.pack.ensures refl
           refl c.clear.ensures.items;
       clients = refl;
       objects = c.pack.ensures;
       orphans = refl;
       clocks = refl;
       answers = ap length c.clear.ensures.items;
-      held = c.clear.ensures.room;
+      has_capacity = c.clear.ensures.room;
     }
 
 pub start_of-requires : goal.start_of-requires
 start_of-requires g c = let s = c.args.state.now in
     subst (λ (rows : List (ObjectRow (Object g.row.A.Denot))).
-    Reads (past_of s.stored) s.clients rows s.orphans s.clocks s.answers.items)
-    (sym c.pack.ensures) c.requires.read
+    Reads (stored_history s.stored) s.clients rows s.orphans s.clocks s.answers.items)
+    (sym c.pack.ensures) c.requires.tables
 
 pub seal-requires-clause-places : goal.seal-requires-clause-places
-seal-requires-clause-places g c = subst (λ (k : ℕ). k ≤ most_places)
+seal-requires-clause-places g c = subst (λ (k : ℕ). k ≤ max_place)
     (sym (ap (λ (s : Start). s.at) c.in_ok-start.ensures.reads)) c.requires.places
 
 pub seal-requires-clause-counted : goal.seal-requires-clause-counted

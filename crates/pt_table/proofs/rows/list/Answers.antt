@@ -8,7 +8,7 @@ pub returns-then-is_some : goal.returns-then-is_some
 returns-then-is_some g c =
     let n = c.args.number in
     let entries = rw c.unwrap-before.ensures at c.insert-inserted.ensures.entries in
-    c.list_again.ensures
+    c.relist.ensures
     ∙ ap (λ es. es ++ (n, c.args.slot) ∷ [])
     (ap (remove_entry (nat_eq n)) entries
     ∙ remove-inserted n c.args.slot c.args.slots.now.entries)

@@ -115,10 +115,10 @@ fn is_flushed(writer: &mut Counted<BufWriter<VecDeque<u8>>>) -> io::Result<bool>
     requires fresh { writer.old.has_failed ≡ false }
 {
     put(writer, b"1 0\n")?;
-    let is_held = writer.device().buffer() == b"1 0\n".as_slice()
+    let is_buffered = writer.device().buffer() == b"1 0\n".as_slice()
         && writer.device().get_ref().is_empty();
     writer.flush()?;
-    Ok(is_held && writer.device().buffer().is_empty() && writer.device().get_ref().len() == 4)
+    Ok(is_buffered && writer.device().buffer().is_empty() && writer.device().get_ref().len() == 4)
 }
 
 #[test]

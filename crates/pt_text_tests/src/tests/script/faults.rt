@@ -75,7 +75,7 @@ fn a_failing_flush_is_a_write_fault(rt: HostRuntime) -> Result<(), Fail> {
         assert!(rt; matches!(ended, Err(ScriptFault::Write)), "at {fails_at}");
         assert_eq!(rt;
             writer.written(),
-            &TWO_CLIENTS_TOLD[..written],
+            &TWO_CLIENTS_REPLIES[..written],
             "at {fails_at}"
         );
     }
@@ -119,13 +119,13 @@ fn a_program_reports_the_fault_of_a_device(rt: HostRuntime) -> Result<(), Fail> 
     ] {
         let (status, writer, errors) = answered(alloc, read_fails_at, write_fails_at)?;
         assert_eq!(rt; status, 3);
-        assert_eq!(rt; writer.written(), &TWO_CLIENTS_TOLD[..written]);
+        assert_eq!(rt; writer.written(), &TWO_CLIENTS_REPLIES[..written]);
         let report = format!(in alloc; "ptserver: {fault}\n")?;
         assert_eq!(rt; errors.written(), report.as_bytes());
     }
     let (status, writer, errors) = answered(alloc, 0, 0)?;
     assert_eq!(rt; status, 0);
-    assert_eq!(rt; writer.written(), TWO_CLIENTS_TOLD);
+    assert_eq!(rt; writer.written(), TWO_CLIENTS_REPLIES);
     assert!(rt; errors.written().is_empty());
     Ok(())
 }

@@ -32,7 +32,7 @@ returns-then-capacity-len-clause-canceled g c =
       | then-capacity-len-via-then-capacity-len w ↦ ap heap_items w.canceled-is
       | then-capacity-len-via-else-capacity-len+then-is_err w ↦ ap heap_items w.canceled-is
           ∙ on-error w.push.result w.is_err.result w.is_err.ensures.value w.if-is_err.true
-          w.push.ensures.err
+          w.push.ensures.unchanged
     ] in
     subst (IsHeap key_cmp) (sym same) c.requires.canceled
 
@@ -44,7 +44,7 @@ returns-then-capacity-len-clause-before g c =
       | then-capacity-len-via-then-capacity-len w ↦ ap heap_items w.canceled-is
       | then-capacity-len-via-else-capacity-len+then-is_err w ↦ ap heap_items w.canceled-is
           ∙ on-error w.push.result w.is_err.result w.is_err.ensures.value w.if-is_err.true
-          w.push.ensures.err
+          w.push.ensures.unchanged
     ] in
     kept-before (heap_items c.args.canceled.now) (heap_items c.then-capacity-len.canceled)
     c.args.last.now c.max.result c.args.key.now c.requires.before c.max.ensures same
@@ -59,7 +59,7 @@ returns-then-capacity-len-clause-live g c =
       | then-capacity-len-via-then-capacity-len w ↦ ap heap_items w.canceled-is
       | then-capacity-len-via-else-capacity-len+then-is_err w ↦ ap heap_items w.canceled-is
           ∙ on-error w.push.result w.is_err.result w.is_err.ensures.value w.if-is_err.true
-          w.push.ensures.err
+          w.push.ensures.unchanged
     ] in
     λ q.
     one-out ks (heap_items c.drop_key.new.keys) (heap_items c.then-capacity-len.canceled) x

@@ -20,11 +20,11 @@ returns-then-key-last-clause-ok g c =
     (heap_items c.drop_key.new.keys) c.args.key.now c.reserve.ensures.items
     c.drop_key.ensures.left)
 
-pub returns-then-key-last-clause-apart : goal.returns-then-key-last-clause-apart
-returns-then-key-last-clause-apart g c =
+pub returns-then-key-last-clause-disjoint : goal.returns-then-key-last-clause-disjoint
+returns-then-key-last-clause-disjoint g c =
     put-apart (heap_items c.args.keys.now) (heap_items c.push.new.keys)
     (heap_items c.args.canceled.now) (heap_items c.drop_key.new.keys) c.args.key.now
-    c.requires.apart
+    c.requires.disjoint
     c.in_ok-push.ensures.ok
     (taken-from (heap_items c.args.canceled.now) (heap_items c.reserve.new.keys)
     (heap_items c.drop_key.new.keys) c.args.key.now c.reserve.ensures.items
@@ -55,11 +55,11 @@ returns-else-key-last-clause-ok g c =
     (none-taken (heap_items c.args.canceled.now) (heap_items c.reserve.new.keys) c.args.last
     c.args.key.now c.reserve.ensures.items c.requires.before c.if-key-last.false)
 
-pub returns-else-key-last-clause-apart : goal.returns-else-key-last-clause-apart
-returns-else-key-last-clause-apart g c =
+pub returns-else-key-last-clause-disjoint : goal.returns-else-key-last-clause-disjoint
+returns-else-key-last-clause-disjoint g c =
     put-apart (heap_items c.args.keys.now) (heap_items c.push.new.keys)
     (heap_items c.args.canceled.now) (heap_items c.reserve.new.keys) c.args.key.now
-    c.requires.apart
+    c.requires.disjoint
     c.in_ok-push.ensures.ok
     (none-taken (heap_items c.args.canceled.now) (heap_items c.reserve.new.keys) c.args.last
     c.args.key.now c.reserve.ensures.items c.requires.before c.if-key-last.false)

@@ -27,8 +27,8 @@ returns-in_default-first_of-clause-fewer g c =
     still-in (heap_items c.args.canceled.now) (heap_items c.pop.new.keys)
     (heap_items c.args.keys.now) c.in-Some.other c.pop.ensures.left
 
-pub returns-in_default-first_of-clause-apart : goal.returns-in_default-first_of-clause-apart
-returns-in_default-first_of-clause-apart g c = λ no. absurd (false≢true (sym no))
+pub returns-in_default-first_of-clause-disjoint : goal.returns-in_default-first_of-clause-disjoint
+returns-in_default-first_of-clause-disjoint g c = λ no. absurd (false≢true (sym no))
 
 pub returns-in_default-first_of-clause-smaller : goal.returns-in_default-first_of-clause-smaller
 returns-in_default-first_of-clause-smaller g c = λ yes.
@@ -41,8 +41,8 @@ returns-in-Less-clause-smaller g c = λ yes. absurd (false≢true yes)
 pub returns-in-Equal-clause-canceled : goal.returns-in-Equal-clause-canceled
 returns-in-Equal-clause-canceled g c = c.requires.canceled
 
-pub returns-in-Equal-clause-apart : goal.returns-in-Equal-clause-apart
-returns-in-Equal-clause-apart g c = λ no. absurd (false≢true (sym no))
+pub returns-in-Equal-clause-disjoint : goal.returns-in-Equal-clause-disjoint
+returns-in-Equal-clause-disjoint g c = λ no. absurd (false≢true (sym no))
 
 pub returns-in-Equal-clause-smaller : goal.returns-in-Equal-clause-smaller
 returns-in-Equal-clause-smaller g c = λ yes.
@@ -57,16 +57,16 @@ returns-in-Greater-clause-fewer g c =
     still-in (heap_items c.args.canceled.now) (heap_items c.pop-in-Greater.new.keys)
     (heap_items c.args.keys.now) c.in-Some.other c.pop-in-Greater.ensures.left
 
-pub returns-in-Greater-clause-apart : goal.returns-in-Greater-clause-apart
-returns-in-Greater-clause-apart g c = λ no. absurd (false≢true (sym no))
+pub returns-in-Greater-clause-disjoint : goal.returns-in-Greater-clause-disjoint
+returns-in-Greater-clause-disjoint g c = λ no. absurd (false≢true (sym no))
 
 pub returns-in-Greater-clause-smaller : goal.returns-in-Greater-clause-smaller
 returns-in-Greater-clause-smaller g c = λ yes.
     right-less (heap_len c.args.keys.now) (heap_len c.args.canceled.now)
     (heap_len c.pop-in-Greater.new.keys) c.pop-in-Greater.ensures.len
 
-pub returns-in-Less-clause-apart : goal.returns-in-Less-clause-apart
-returns-in-Less-clause-apart g c = λ _.
+pub returns-in-Less-clause-disjoint : goal.returns-in-Less-clause-disjoint
+returns-in-Less-clause-disjoint g c = λ _.
     later-apart (heap_items c.args.keys.now) (heap_items c.args.canceled.now)
     c.in-Some-first_of.first c.in-Some.other c.in-Some-first_of.ensures c.in-Some.ensures
     (less-later c.in-Some.other c.in-Some-first_of.first (sym c.cmp.ensures ∙ c.in-Less.is))

@@ -8,7 +8,7 @@ pub loop-first-init : goal.loop-first-init
 loop-first-init g c = (
   c.requires.heap,
   c.requires.canceled,
-  c.requires.apart,
+  c.requires.disjoint,
   c.requires.empty,
   λ q. ap (λ b. b || is_live (heap_items c.args.keys.now) (heap_items c.args.canceled.now) q)
       (c.requires.none q),
@@ -25,7 +25,7 @@ loop-first-preserved g c =
     let done = c.push.ensures.succeeds room.0 in (
       c.settle.ensures.heap,
       c.settle.ensures.canceled,
-      c.settle.ensures.apart,
+      c.settle.ensures.disjoint,
       c.push.ensures.heap,
       λ q.
           moved-on (heap_items c.loop-first.keys) (heap_items c.pop.new.keys)

@@ -1,8 +1,8 @@
 use Rattle.std.proofs.Common.{◌+◌, ◌<◌, ◌^◌, Some, refl, sym, ap, ◌∙◌, subst, arith}
 use Rattle.std.specs.Option.{option_map, option_copied_mut, option_to_list}
 use Rattle.pt_chains.specs.declared.sides.Queue.{Queue}
-use Rattle.pt_chains.specs.Chains.{HasNone, IsPut}
-use Rattle.pt_chains.specs.Boxes.{no_queue, lone_queue, queue_by, IsKept}
+use Rattle.pt_chains.specs.Chains.{HasNone, IsAppended}
+use Rattle.pt_chains.specs.Boxes.{no_queue, lone_queue, queue_by, IsBoxRule}
 use Rattle.pt_chains.proofs.LoneLemmas.{put-first, put-same}
 use Rattle.pt_chains.proofs.SeenLemmas.{lone-count, lone-put, lone-waits, seen-lone, unboxed}
 use Rattle.pt_chains.proofs.JoinedLemmas.{popped-empty, each-front, one-popped, none-popped}
@@ -18,15 +18,16 @@ returns-then-is_none-clause-put g c =
     let p = c.args.p in
     let n = c.args.node in
     let box = option_map (λ b. b.value) c.pop.result in
-    subst (λ q. IsPut k p n c.none.result q
+    subst (λ q. IsAppended k p n c.none.result q
     (queue_by box c.to-self-inside.result c.to-self-inside-then-is_none.result 1 k p))
     (unboxed (λ b. b.value) own.boxed own.head own.tail own.count own.writer own.p c.args.self.now
     c.self.view_is c.self.invariant c.if-is_none.ensures)
-    (subst (λ l. IsPut k p n c.none.result no_queue
+    (subst (λ l. IsAppended k p n c.none.result no_queue
     (queue_by box l c.to-self-inside-then-is_none.result 1 k p)) (sym c.to-self-inside.ensures)
-    (subst (λ l. IsPut k p n c.none.result no_queue (queue_by box (Some n) l 1 k p))
+    (subst (λ l. IsAppended k p n c.none.result no_queue (queue_by box (Some n) l 1 k p))
     (sym c.to-self-inside-then-is_none.ensures)
-    (subst (λ l. IsPut k p n l no_queue (lone_queue (Some n) (Some n) 1 k p)) (sym c.none.ensures)
+    (subst (λ l. IsAppended k p n l no_queue (lone_queue (Some n) (Some n) 1 k p))
+    (sym c.none.ensures)
     (put-first k p n c.requires.index))))
 
 pub overflow_add-self : goal.overflow_add-self
@@ -44,7 +45,7 @@ returns-then-is_chain-clause-put g c =
     let own = c.self.inside in
     let some = c.if-not-is_none.ensures in
     let same = c.if-is_chain.ensures refl in
-    subst (λ l. IsPut c.args.writer c.args.p c.args.node own.tail c.args.self.now
+    subst (λ l. IsAppended c.args.writer c.args.p c.args.node own.tail c.args.self.now
     (queue_by (option_map (λ b. b.value) own.boxed) own.head l (own.count + 1) own.writer own.p))
     (sym c.to-self-inside-then-is_chain.ensures)
     (lone-put (λ b. b.value) own.boxed own.head own.tail own.count own.writer own.p
@@ -61,9 +62,9 @@ invariant_of-self g c =
     let spare = c.requires.spare (ap (λ (q : Queue). q.len) (sym none)) in
     let empty = popped-empty (λ b. b.value) c.pop.new.self.items c.args.spares.now.items
     c.pop.result c.pop.ensures.items (c.pop.ensures.variant.1 spare) c.requires.empty in
-    subst (λ h. IsKept box h c.to-self-inside-then-is_none.result 1 c.args.p)
+    subst (λ h. IsBoxRule box h c.to-self-inside-then-is_none.result 1 c.args.p)
     (sym c.to-self-inside.ensures)
-    (subst (λ t. IsKept box node t 1 c.args.p) (sym c.to-self-inside-then-is_none.ensures)
+    (subst (λ t. IsBoxRule box node t 1 c.args.p) (sym c.to-self-inside-then-is_none.ensures)
     (c.requires.index, one-more 1 0 refl, refl, empty))
 
 pub returns-then-is_none-clause-empty : goal.returns-then-is_none-clause-empty
@@ -98,7 +99,7 @@ put_in-requires-clause-room g c =
     own.p in
     let same = joined-same (λ b. b.value) c.join.new.boxed c.unwrap.result.now box was
     c.args.self.now c.deref_mut.result.now c.self.view_is c.deref_mut.ensures.value
-    c.join.ensures.same in
+    c.join.ensures.unchanged in
     subst (λ n. n + 1 < 2 ^ 32)
     (same-count c.args.writer c.args.p c.args.self.now c.deref_mut.result.now c.requires.index same)
     c.requires.room
@@ -111,7 +112,7 @@ put_in-requires-clause-len g c =
     own.p in
     let same = joined-same (λ b. b.value) c.join.new.boxed c.unwrap.result.now box was
     c.args.self.now c.deref_mut.result.now c.self.view_is c.deref_mut.ensures.value
-    c.join.ensures.same in
+    c.join.ensures.unchanged in
     subst (λ n. n + 1 < 2 ^ 64) (sym same.len) c.requires.len
 
 pub returns-clause-put : goal.returns-clause-put
@@ -122,8 +123,8 @@ returns-clause-put g c =
     own.p in
     let same = joined-same (λ b. b.value) c.join.new.boxed c.unwrap.result.now box was
     c.args.self.now c.deref_mut.result.now c.self.view_is c.deref_mut.ensures.value
-    c.join.ensures.same in
-    subst (λ h. IsPut c.args.writer c.args.p c.args.node c.put_in.result c.args.self.now
+    c.join.ensures.unchanged in
+    subst (λ h. IsAppended c.args.writer c.args.p c.args.node c.put_in.result c.args.self.now
     (queue_by (Some c.put_in.new.self) h own.tail own.count own.writer own.p))
     (sym c.join.ensures.none)
     (put-same c.args.writer c.args.p c.args.node c.args.self.now c.deref_mut.result.now
@@ -132,7 +133,7 @@ returns-clause-put g c =
 pub invariant_of-self-2 : goal.invariant_of-self-2
 invariant_of-self-2 g c =
     let own = c.self.inside in
-    subst (λ h. IsKept (Some c.put_in.new.self) h own.tail own.count own.p)
+    subst (λ h. IsBoxRule (Some c.put_in.new.self) h own.tail own.count own.p)
     (sym c.join.ensures.none)
     (one-more c.put_in.new.self.len c.deref_mut.result.now.len c.put_in.ensures.len)
 
@@ -145,13 +146,13 @@ returns-clause-len g c =
     none-popped _ c.args.self.now.len
     (joined-waits (λ b. b.value) c.join.new.boxed c.unwrap.result.now box was
     c.args.self.now c.deref_mut.result.now c.self.view_is c.deref_mut.ensures.value
-    c.join.ensures.same c.join.ensures.some)
+    c.join.ensures.unchanged c.join.ensures.some)
 
 pub invariant_of-self-then-is_chain : goal.invariant_of-self-then-is_chain
 invariant_of-self-then-is_chain g c =
     let own = c.self.inside in
     let box = option_map (λ b. b.value) own.boxed in
-    subst (λ t. IsKept box own.head t (own.count + 1) own.p)
+    subst (λ t. IsBoxRule box own.head t (own.count + 1) own.p)
     (sym c.to-self-inside-then-is_chain.ensures)
     (kept-lone (λ b. b.value) own.boxed own.head own.tail own.count own.writer own.p
     c.args.self.now c.self.view_is c.self.invariant (Some c.args.node) (own.count + 1)

@@ -1,12 +1,12 @@
 use Rattle.std.proofs.Common.{◌==◌, ◌+◌, ◌||◌, Some, cond, length, vec_len, vec_capacity, refl, sym}
 use Rattle.std.proofs.Common.{ap, ◌∙◌}
-use Rattle.pt_waitq.specs.Waits.{is_admitted, is_made, queue_in, is_listed, has_waiter}
-use Rattle.pt_chains.specs.Chains.{numbers, waiting_by}
-use Rattle.pt_chains.specs.Boxes.{busy}
+use Rattle.pt_waitq.specs.Waits.{is_admitted, has_queue, queue_in, is_listed, has_waiter}
+use Rattle.pt_chains.specs.Chains.{numbers, queued_waiters}
+use Rattle.pt_chains.specs.Boxes.{busy_queue_count}
 use Rattle.pt_chains.proofs.ChainLemmas.{not-listed}
 use Rattle.pt_chains.proofs.LinkLemmas.{or_parts}
 use Rattle.pt_chains.proofs.BoxLemmas.{boxes-grown}
-use Rattle.pt_chains.proofs.HomeLemmas.{chains-joined}
+use Rattle.pt_chains.proofs.NodeIndexLemmas.{chains-joined}
 use Rattle.pt_chains.proofs.InsertLemmas.{length-numbers}
 use Rattle.pt_chains.proofs.GrowthLemmas.{chains-same, boxes-same, spares-few, few-clients}
 use Rattle.pt_chains.proofs.GrowthLemmas.{enough-clients, at-most, one-admitted, still-listed}
@@ -21,13 +21,13 @@ admit-requires-clause-new g c =
     c.make_room.ensures.homes k
     ∙ not-listed homes k
     (or_parts (is_listed k (numbers homes))
-    (has_waiter k (waiting_by c.self.inside.log.items)) out).0
+    (has_waiter k (queued_waiters c.self.inside.log.items)) out).0
 
 pub invariant_of-self-2 : goal.invariant_of-self-2
 invariant_of-self-2 g c =
     let homes = c.self.inside.homes.map.entries in
     let k = c.client.inside.0 in
-    let es = waiting_by c.self.inside.log.items in
+    let es = queued_waiters c.self.inside.log.items in
     let out = ap (λ s. is_admitted s k) c.self.view_is
     ∙ (ap (is_admitted c.args.self.now) c.client.view_is ∙ c.requires) in
     let none = not-listed homes k (or_parts (is_listed k (numbers homes))
@@ -39,11 +39,11 @@ invariant_of-self-2 g c =
     let longer = done.count ∙ ap (λ l. l + 1) room.count in
     let enough = enough-clients (length homes) (length c.admit.new.homes.map.entries)
     (length (numbers queues)) c.in-Ok-grow.boxes c.len-2.result c.len.result c.min-wanted.result
-    grown.enough (c.len-2.ensures.len ∙ room.count)
+    grown.covers (c.len-2.ensures.len ∙ room.count)
     (c.len.ensures.len ∙ sym (length-numbers queues)) c.min-wanted.ensures longer in (
       chains-joined homes c.make_room.new.homes.map.entries c.admit.new.homes.map.entries
           c.self.inside.nodes.slots c.make_room.new.nodes.slots c.admit.new.nodes.slots queues es
-          k c.admit.result c.self.invariant.0 none c.in-Ok.ensures.few room.homes room.count
+          k c.admit.result c.self.invariant.0 none c.in-Ok.ensures.within room.homes room.count
           room.nodes done.homes done.count done.vacant done.entry done.client done.others,
       boxes-grown (length homes) _ (length (numbers queues)) _ es _ _ _ _ c.self.inside.boxes
           c.self.invariant.1 c.in-Ok-grow.boxes enough grown.len grown.room,
@@ -57,10 +57,11 @@ invariant_of-self g c =
     let room = c.make_room.ensures in
     let spares = c.self.inside.spares in (
       chains-same homes hs c.self.inside.nodes.slots c.make_room.new.nodes.slots
-          c.self.inside.queues (waiting_by c.self.inside.log.items) room.homes room.count room.nodes
+          c.self.inside.queues (queued_waiters c.self.inside.log.items) room.homes room.count
+          room.nodes
           c.self.invariant.0,
       boxes-same (length homes) (length hs) (length (numbers c.self.inside.queues))
-          (waiting_by c.self.inside.log.items) (vec_len spares) (vec_len spares)
+          (queued_waiters c.self.inside.log.items) (vec_len spares) (vec_len spares)
           (vec_capacity spares) (vec_capacity spares) c.self.inside.boxes room.count
           refl (at-most (vec_capacity spares)) c.self.invariant.1,
       c.self.invariant.2,
@@ -74,18 +75,19 @@ invariant_of-self-in_default-grow g c =
     let old = c.self.inside.spares in
     let new = c.grow.new.spares in (
       chains-same homes hs c.self.inside.nodes.slots c.make_room.new.nodes.slots
-          c.self.inside.queues (waiting_by c.self.inside.log.items) room.homes room.count room.nodes
+          c.self.inside.queues (queued_waiters c.self.inside.log.items) room.homes room.count
+          room.nodes
           c.self.invariant.0,
       boxes-same (length homes) (length hs) (length (numbers c.self.inside.queues))
-          (waiting_by c.self.inside.log.items) (vec_len old) (vec_len new)
+          (queued_waiters c.self.inside.log.items) (vec_len old) (vec_len new)
           (vec_capacity old) (vec_capacity new) c.self.inside.boxes room.count
-          c.in_default-grow.ensures.still c.grow.ensures.capacity c.self.invariant.1,
+          c.in_default-grow.ensures.unchanged c.grow.ensures.capacity c.self.invariant.1,
       c.grow.ensures.empty,
     )
 
-pub returns-in_default-clause-err : goal.returns-in_default-clause-err
-returns-in_default-clause-err g c = λ d.
-    let es = waiting_by c.self.inside.log.items in
+pub returns-in_default-clause-unchanged : goal.returns-in_default-clause-unchanged
+returns-in_default-clause-unchanged g c = λ d.
+    let es = queued_waiters c.self.inside.log.items in
     ap (λ b. b || has_waiter d es)
     (still-listed c.self.inside.homes.map.entries c.make_room.new.homes.map.entries d
     (c.make_room.ensures.homes d))
@@ -94,12 +96,12 @@ returns-in_default-clause-err g c = λ d.
 pub returns-in_default-clause-queues : goal.returns-in_default-clause-queues
 returns-in_default-clause-queues g c = λ q. ap (λ w. queue_in w q) c.self.view_is
 
-pub returns-in_default-clause-made : goal.returns-in_default-clause-made
-returns-in_default-clause-made g c = λ q. ap (λ w. is_made w q) c.self.view_is
+pub returns-in_default-clause-is_queue : goal.returns-in_default-clause-is_queue
+returns-in_default-clause-is_queue g c = λ q. ap (λ w. has_queue w q) c.self.view_is
 
-pub returns-in_default-grow-clause-err : goal.returns-in_default-grow-clause-err
-returns-in_default-grow-clause-err g c = λ d.
-    let es = waiting_by c.self.inside.log.items in
+pub returns-in_default-grow-clause-unchanged : goal.returns-in_default-grow-clause-unchanged
+returns-in_default-grow-clause-unchanged g c = λ d.
+    let es = queued_waiters c.self.inside.log.items in
     ap (λ b. b || has_waiter d es)
     (still-listed c.self.inside.homes.map.entries c.make_room.new.homes.map.entries d
     (c.make_room.ensures.homes d))
@@ -108,8 +110,8 @@ returns-in_default-grow-clause-err g c = λ d.
 pub returns-in_default-grow-clause-queues : goal.returns-in_default-grow-clause-queues
 returns-in_default-grow-clause-queues g c = λ q. ap (λ w. queue_in w q) c.self.view_is
 
-pub returns-in_default-grow-clause-made : goal.returns-in_default-grow-clause-made
-returns-in_default-grow-clause-made g c = λ q. ap (λ w. is_made w q) c.self.view_is
+pub returns-in_default-grow-clause-is_queue : goal.returns-in_default-grow-clause-is_queue
+returns-in_default-grow-clause-is_queue g c = λ q. ap (λ w. has_queue w q) c.self.view_is
 
 pub grow-requires-clause-wanted : goal.grow-requires-clause-wanted
 grow-requires-clause-wanted g c =
@@ -125,7 +127,7 @@ grow-requires-clause-room g c = c.self.invariant.1.fit
 
 pub grow-requires-clause-len : goal.grow-requires-clause-len
 grow-requires-clause-len g c =
-    spares-few c.self.inside.boxes (busy (waiting_by c.self.inside.log.items))
+    spares-few c.self.inside.boxes (busy_queue_count (queued_waiters c.self.inside.log.items))
     (vec_len c.self.inside.spares) c.self.invariant.1.count
 
 pub grow-requires-clause-empty : goal.grow-requires-clause-empty
@@ -143,7 +145,7 @@ admit-requires-clause-index g c = c.in-Ok.ensures.index
 pub returns-clause-ok : goal.returns-clause-ok
 returns-clause-ok g c = λ d.
     let homes = c.self.inside.homes.map.entries in
-    let es = waiting_by c.self.inside.log.items in
+    let es = queued_waiters c.self.inside.log.items in
     let k = c.client.inside.0 in
     one-admitted homes c.admit.new.homes.map.entries es k c.admit.result d
     (c.admit.ensures.homes d
@@ -154,5 +156,5 @@ returns-clause-ok g c = λ d.
 pub returns-clause-queues : goal.returns-clause-queues
 returns-clause-queues g c = λ q. ap (λ w. queue_in w q) c.self.view_is
 
-pub returns-clause-made : goal.returns-clause-made
-returns-clause-made g c = λ q. ap (λ w. is_made w q) c.self.view_is
+pub returns-clause-is_queue : goal.returns-clause-is_queue
+returns-clause-is_queue g c = λ q. ap (λ w. has_queue w q) c.self.view_is

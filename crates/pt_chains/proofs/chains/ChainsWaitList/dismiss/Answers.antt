@@ -1,17 +1,17 @@
 use Rattle.std.proofs.Common.{◌==◌, not, ◌&&◌, ◌||◌, length, vec_capacity, refl, ap, ◌∙◌}
-use Rattle.pt_waitq.specs.Waits.{is_admitted, is_made, queue_in, is_listed, has_waiter}
-use Rattle.pt_chains.specs.Chains.{waiting_by, numbers}
+use Rattle.pt_waitq.specs.Waits.{is_admitted, has_queue, queue_in, is_listed, has_waiter}
+use Rattle.pt_chains.specs.Chains.{queued_waiters, numbers}
 use Rattle.pt_waitq.proofs.ChangeLemmas.{none-stands}
 use Rattle.pt_chains.proofs.BoxLemmas.{boxes-kept}
-use Rattle.pt_chains.proofs.HomeLemmas.{chains-dismissed, dismissed-admits}
+use Rattle.pt_chains.proofs.NodeIndexLemmas.{chains-dismissed, dismissed-admits}
 use Rattle.pt_chains.proofs.GrowthLemmas.{at-most}
 use Rattle.pt_chains.proofs.chains.ChainsWaitList.dismiss.Goals as goal
 
 pub invariant_of-self : goal.invariant_of-self
 invariant_of-self g c =
-    let es = waiting_by c.self.inside.log.items in
-    let stand = c.self.invariant.0.stand in
-    let none = none-stands _ _ es _ c.args.client c.self.view_is stand c.requires.nowhere in
+    let es = queued_waiters c.self.inside.log.items in
+    let queued = c.self.invariant.0.queued in
+    let none = none-stands _ _ es _ c.args.client c.self.view_is queued c.requires.nowhere in
     let gone = c.dismiss.ensures in (
       chains-dismissed c.self.inside.homes.map.entries _ c.self.inside.nodes.slots _
           c.self.inside.queues es c.client.inside.0 c.self.invariant.0 gone.homes
@@ -24,9 +24,9 @@ invariant_of-self g c =
 
 pub returns-clause-admitted : goal.returns-clause-admitted
 returns-clause-admitted g c = λ d.
-    let es = waiting_by c.self.inside.log.items in
-    let stand = c.self.invariant.0.stand in
-    let none = none-stands _ _ es _ c.args.client c.self.view_is stand c.requires.nowhere in
+    let es = queued_waiters c.self.inside.log.items in
+    let queued = c.self.invariant.0.queued in
+    let none = none-stands _ _ es _ c.args.client c.self.view_is queued c.requires.nowhere in
     let gone = c.dismiss.ensures in
     let homes = c.self.inside.homes.map.entries in
     dismissed-admits homes _ c.self.inside.nodes.slots _ c.self.inside.queues es
@@ -39,5 +39,5 @@ returns-clause-admitted g c = λ d.
 pub returns-clause-queues : goal.returns-clause-queues
 returns-clause-queues g c = λ q. ap (λ w. queue_in w q) c.self.view_is
 
-pub returns-clause-made : goal.returns-clause-made
-returns-clause-made g c = λ q. ap (λ w. is_made w q) c.self.view_is
+pub returns-clause-is_queue : goal.returns-clause-is_queue
+returns-clause-is_queue g c = λ q. ap (λ w. has_queue w q) c.self.view_is

@@ -2,7 +2,7 @@ use Rattle.std.proofs.Common.{◌==◌, ◌||◌, ◌∙◌, length, nat_eq, ap,
 use Rattle.std.specs.Map.{lookup}
 use Rattle.pt_waitq.specs.Waits.{is_listed}
 use Rattle.pt_chains.specs.Chains.{numbers, Unique}
-use Rattle.pt_chains.specs.Opened.{queue_at}
+use Rattle.pt_chains.specs.OpenQueues.{queue_at}
 use Rattle.pt_chains.specs.Rows.{rows_of}
 use Rattle.pt_chains.proofs.OpenedLemmas.{unique-numbers}
 use Rattle.pt_chains.proofs.RowChanges.{rows-added, chains-added, listed-added}
@@ -36,8 +36,8 @@ invariant_of-self g c =
     (filled-row c.args.number c.new.result _ filled.changed c.new.ensures) filled.others
     (unique-numbers c.insert-placed.new.self.entries c.insert-placed.ensures.unique)
 
-pub returns-clause-same : goal.returns-clause-same
-returns-clause-same g c = λ x.
+pub returns-clause-unchanged : goal.returns-clause-unchanged
+returns-clause-unchanged g c = λ x.
     let slots = c.self.inside.slots.slots in
     let none = no-place c.self.inside.places.entries slots c.args.number
     (ap (λ v. lookup (nat_eq c.args.number) (rows_of v)) c.self.view_is ∙ c.requires.none) in

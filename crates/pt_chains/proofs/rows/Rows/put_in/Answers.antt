@@ -1,7 +1,7 @@
 use Rattle.std.proofs.Common.{◌∙◌, Some, nat_eq, is_some, ap, sym, subst, slice_set}
 use Rattle.std.specs.Map.{lookup}
 use Rattle.std.specs.Option.{option_copied_mut}
-use Rattle.pt_chains.specs.Chains.{IsPut}
+use Rattle.pt_chains.specs.Chains.{IsAppended}
 use Rattle.pt_chains.specs.Rows.{chains_in, rows_of}
 use Rattle.pt_chains.proofs.RowChanges.{rows-set, others-set, chains-set}
 use Rattle.pt_chains.proofs.RowLemmas.{lent-there, chains-there, placed-there}
@@ -9,11 +9,11 @@ use Rattle.pt_chains.proofs.rows.Rows.put_in.Goals as goal
 
 pub unwrap-requires : goal.unwrap-requires
 unwrap-requires g c =
-    let o = c.requires.there.0 in
+    let o = c.requires.exists.0 in
     lent-there c.get_mut.result
     ∙ (ap is_some c.get_mut.ensures.value
     ∙ placed-there c.self.inside.places.entries c.self.inside.slots.slots c.self.invariant o
-    c.args.slot (ap (λ v. lookup (nat_eq o) v.places) c.self.view_is ∙ c.requires.there.1))
+    c.args.slot (ap (λ v. lookup (nat_eq o) v.places) c.self.view_is ∙ c.requires.exists.1))
 
 pub invariant_of-self : goal.invariant_of-self
 invariant_of-self g c =
@@ -39,7 +39,7 @@ returns-clause-queue g c =
     c.put_in.new.self c.self.invariant row in
     let later = chains_in (slice_set slots c.args.slot
     (Some (c.unwrap.result.now.0, c.put_in.new.self))) c.args.slot in
-    subst (λ q. IsPut c.args.writer c.args.p c.args.node c.put_in.result q later)
+    subst (λ q. IsAppended c.args.writer c.args.p c.args.node c.put_in.result q later)
     before
-    (subst (λ q. IsPut c.args.writer c.args.p c.args.node c.put_in.result
+    (subst (λ q. IsAppended c.args.writer c.args.p c.args.node c.put_in.result
     c.unwrap.result.now.1 q) (sym after) c.put_in.ensures.put)

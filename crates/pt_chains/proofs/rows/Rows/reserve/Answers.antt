@@ -13,8 +13,8 @@ invariant_of-self g c =
     c.reserve.ensures.entries.2 c.self.invariant
     (unique-numbers now c.reserve.ensures.unique))
 
-pub returns-then-is_ok-clause-same : goal.returns-then-is_ok-clause-same
-returns-then-is_ok-clause-same g c = λ x.
+pub returns-then-is_ok-clause-unchanged : goal.returns-then-is_ok-clause-unchanged
+returns-then-is_ok-clause-unchanged g c = λ x.
     let now = c.reserve.new.self.entries in
     ap (λ s. lookup (nat_eq x) (rows_by now s.slots)) c.reserve-then-is_ok.ensures.rest_kept
     ∙ (rows-placed c.self.inside.places.entries now c.self.inside.slots.slots

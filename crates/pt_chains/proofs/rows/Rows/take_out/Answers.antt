@@ -9,11 +9,11 @@ use Rattle.pt_chains.proofs.rows.Rows.take_out.Goals as goal
 
 pub unwrap-requires : goal.unwrap-requires
 unwrap-requires g c =
-    let o = c.requires.there.0 in
+    let o = c.requires.exists.0 in
     lent-there c.get_mut.result
     ∙ (ap is_some c.get_mut.ensures.value
     ∙ placed-there c.self.inside.places.entries c.self.inside.slots.slots c.self.invariant o
-    c.args.slot (ap (λ v. lookup (nat_eq o) v.places) c.self.view_is ∙ c.requires.there.1))
+    c.args.slot (ap (λ v. lookup (nat_eq o) v.places) c.self.view_is ∙ c.requires.exists.1))
 
 pub invariant_of-self : goal.invariant_of-self
 invariant_of-self g c =

@@ -1,22 +1,24 @@
 use Rattle.std.proofs.Common.{OnOk, sym, ap, subst}
 use Rattle.pt_types.specs.declared.outcome.Refusal.TheVariants.{Nohello}
 use Rattle.pt_model.specs.declared.entry.Event.TheVariants as event
-use Rattle.pt_engine.specs.Scripts.{of_client}
-use Rattle.pt_engine.specs.Says.{SaysTo}
-use Rattle.pt_engine.specs.Engines.{Adds, known_by}
+use Rattle.pt_engine.specs.Scripts.{line_of_client}
+use Rattle.pt_engine.specs.LineAnswers.{AnswersRequest}
+use Rattle.pt_engine.specs.Engines.{Appends, as_script}
 use Rattle.pt_engine.proofs.Lines.{refused_as}
 use Rattle.pt_engine.proofs.engine.Engine.die.Goals as goal
 
 pub returns-in-None-clause-ok : goal.returns-in-None-clause-ok
 returns-in-None-clause-ok g c =
-    refused_as c.refuse.result (known_by c.args.self.now) c.args.line.now
-    (of_client (λ d. event.Death d) c.args.client) Nohello c.args.out.now.items
-    c.refuse.new.out.items (ap (of_client (λ d. event.Death d)) c.in-None.is) c.refuse.ensures.ok
+    refused_as c.refuse.result (as_script c.args.self.now) c.args.line.now
+    (line_of_client (λ d. event.Death d) c.args.client) Nohello c.args.out.now.items
+    c.refuse.new.out.items (ap (line_of_client
+    (λ d. event.Death d)) c.in-None.is) c.refuse.ensures.ok
 
 pub returns-in-Some-clause-ok : goal.returns-in-Some-clause-ok
 returns-in-Some-clause-ok g c =
     subst
     (λ v. OnOk c.run.result
-    (Adds (SaysTo (known_by c.args.self.now) c.args.line.now v (known_by c.run.new.self))
+    (Appends (AnswersRequest (as_script c.args.self.now) c.args.line.now v
+    (as_script c.run.new.self))
     c.args.out.now.items c.run.new.out.items))
-    (sym (ap (of_client (λ d. event.Death d)) c.in-Some.is)) c.run.ensures.ok
+    (sym (ap (line_of_client (λ d. event.Death d)) c.in-Some.is)) c.run.ensures.ok

@@ -1,7 +1,7 @@
 use Rattle.std.proofs.Common.{Err, sym, ap, ◌∙◌}
-use Rattle.pt_legal.specs.Cores.{past}
+use Rattle.pt_legal.specs.Cores.{history_of}
 use Rattle.pt_engine.specs.Scripts.{core_of, join_for}
-use Rattle.pt_engine.specs.Engines.{known_by}
+use Rattle.pt_engine.specs.Engines.{as_script}
 use Rattle.pt_engine.proofs.Lines.{refused_as}
 use Rattle.pt_engine.proofs.engine.Engine.hello.Goals as goal
 
@@ -10,8 +10,8 @@ returns-in-None-clause-ok g c = rw c.in-None.is c.run.ensures.ok
 
 pub returns-in-Some-clause-ok : goal.returns-in-Some-clause-ok
 returns-in-Some-clause-ok g c =
-    let s = known_by c.args.self.now in
-    let asks = join_for (past (core_of s)) c.args.priority in
+    let s = as_script c.args.self.now in
+    let asks = join_for (history_of (core_of s)) c.args.priority in
     refused_as c.refuse.result s c.args.line.now (asks c.args.client) c.refusal_of_hello.result
     c.args.out.now.items c.refuse.new.out.items
     (ap asks c.in-Some.is ∙ ap Err (sym c.refusal_of_hello.ensures)) c.refuse.ensures.ok

@@ -2,7 +2,7 @@ use Rattle.std.proofs.Common.{◌∙◌, Some, sym, ap}
 use Rattle.std.specs.Option.{option_map}
 use Rattle.std.proofs.lemmas.Map.Made.{lookup_key_same}
 use Rattle.std.proofs.lemmas.Slice.Eq.{bytes_eq-Decides}
-use Rattle.pt_engine.specs.Names.{Counted, row_of}
+use Rattle.pt_engine.specs.Names.{LineCounts, row_of_name}
 use Rattle.pt_engine.proofs.names.Counts.look_up.Goals as goal
 
 pub returns-in-Some-clause-at : goal.returns-in-Some-clause-at
@@ -16,6 +16,6 @@ returns-in-Some-clause-at g c =
 
 pub begin-requires : goal.begin-requires
 begin-requires g c =
-    sym (ap (λ (k : Counted). row_of k.rows c.args.name.now) c.self.view_is)
+    sym (ap (λ (k : LineCounts). row_of_name k.rows c.args.name.now) c.self.view_is)
     ∙ sym c.get_full.ensures.value
     ∙ ap (option_map (λ p. p.2.now)) c.in-None.is

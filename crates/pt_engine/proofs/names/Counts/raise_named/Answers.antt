@@ -2,8 +2,8 @@ use Rattle.std.proofs.Common.{◌<◌, ◌∙◌, ◌^◌, suc, sym, ap, subst}
 use Rattle.pt_grammar.specs.declared.client.Who.TheVariants.{Named}
 use Rattle.pt_engine.proofs.names.Counts.raise_named.Goals as goal
 
-pub count_at-requires-2-clause-few : goal.count_at-requires-2-clause-few
-count_at-requires-2-clause-few g c =
+pub count_at-requires-2-clause-within : goal.count_at-requires-2-clause-within
+count_at-requires-2-clause-within g c =
     subst (λ n. n < 2 ^ 53) (sym (c.in_ok-index.ensures.alike.lines (Named c.args.name.now)))
     c.requires
 

@@ -6,7 +6,7 @@ use Rattle.pt_model.specs.declared.entry.Entry.TheVariants.{Call as CallEntry}
 use Rattle.pt_model.specs.declared.entry.Entry.TheVariants.{Moment as MomentEntry}
 use Rattle.pt_model.specs.declared.entry.Entry.TheVariants.{Trip as TripEntry}
 use Rattle.pt_history.specs.declared.compact.Compact.{Compact}
-use Rattle.pt_history.specs.Compact.{IsStored, answered, decoded}
+use Rattle.pt_history.specs.Compact.{IsStored, outcome_of_answer, read_compact}
 use Rattle.pt_history.specs.Records.{parts_of}
 use Rattle.pt_history.proofs.records.Records.entry.Goals as goal
 
@@ -21,46 +21,47 @@ pub returns-in-Timed : goal.returns-in-Timed
 returns-in-Timed g c = rw (c.in-Timed.is, c.call_entry-in-Timed.ensures, c.timed.ensures)
 
 pub returns-in-Join : goal.returns-in-Join
-returns-in-Join g c = sym (ap (decoded c.args.base (parts_of c.args.self.now)) c.in-Join.is)
+returns-in-Join g c = sym (ap (read_compact c.args.base (parts_of c.args.self.now)) c.in-Join.is)
 
 pub returns-in-Death : goal.returns-in-Death
-returns-in-Death g c = sym (ap (decoded c.args.base (parts_of c.args.self.now)) c.in-Death.is)
+returns-in-Death g c = sym (ap (read_compact c.args.base (parts_of c.args.self.now)) c.in-Death.is)
 
 pub returns-in-Grant : goal.returns-in-Grant
-returns-in-Grant g c = sym (ap (decoded c.args.base (parts_of c.args.self.now)) c.in-Grant.is)
+returns-in-Grant g c = sym (ap (read_compact c.args.base (parts_of c.args.self.now)) c.in-Grant.is)
 
 pub returns-in-Trip : goal.returns-in-Trip
-returns-in-Trip g c = sym (ap (decoded c.args.base (parts_of c.args.self.now)) c.in-Trip.is)
+returns-in-Trip g c = sym (ap (read_compact c.args.base (parts_of c.args.self.now)) c.in-Trip.is)
 
 pub returns-in-Yield : goal.returns-in-Yield
-returns-in-Yield g c = sym (ap (decoded c.args.base (parts_of c.args.self.now)) c.in-Yield.is)
+returns-in-Yield g c = sym (ap (read_compact c.args.base (parts_of c.args.self.now)) c.in-Yield.is)
 
 pub returns-in-Expire : goal.returns-in-Expire
-returns-in-Expire g c = sym (ap (decoded c.args.base (parts_of c.args.self.now)) c.in-Expire.is)
+returns-in-Expire g c = sym (ap (read_compact c.args.base
+    (parts_of c.args.self.now)) c.in-Expire.is)
 
 pub returns-in-Wait : goal.returns-in-Wait
 returns-in-Wait g c =
     c.call_entry-in-Wait.ensures
     ∙ (ap (λ (x : CallWords). CallEntry (c.args.base + c.in-Wait.client) x
-    (answered c.in-Wait.answer))
+    (outcome_of_answer c.in-Wait.answer))
     c.wait.ensures
-    ∙ sym (ap (decoded c.args.base (parts_of c.args.self.now)) c.in-Wait.is))
+    ∙ sym (ap (read_compact c.args.base (parts_of c.args.self.now)) c.in-Wait.is))
 
 pub returns-in-TimedWait : goal.returns-in-TimedWait
 returns-in-TimedWait g c =
     c.call_entry-in-TimedWait.ensures
     ∙ (ap (λ (x : CallWords). CallEntry (c.args.base + c.in-TimedWait.client) x
-    (answered c.in-TimedWait.answer))
+    (outcome_of_answer c.in-TimedWait.answer))
     c.timed_wait.ensures
-    ∙ sym (ap (decoded c.args.base (parts_of c.args.self.now)) c.in-TimedWait.is))
+    ∙ sym (ap (read_compact c.args.base (parts_of c.args.self.now)) c.in-TimedWait.is))
 
 pub returns-in-Barrier : goal.returns-in-Barrier
 returns-in-Barrier g c =
     let k = c.in-Barrier.count in
     c.call_entry-in-Barrier.ensures
     ∙ (ap (λ (n : List ℕ). CallEntry (c.args.base + c.in-Barrier.client) (BarrierInit n k)
-    (answered c.in-Barrier.answer)) c.name-in-Barrier.ensures
-    ∙ sym (ap (decoded c.args.base (parts_of c.args.self.now)) c.in-Barrier.is))
+    (outcome_of_answer c.in-Barrier.answer)) c.name-in-Barrier.ensures
+    ∙ sym (ap (read_compact c.args.base (parts_of c.args.self.now)) c.in-Barrier.is))
 
 pub returns-in-Moment : goal.returns-in-Moment
 returns-in-Moment g c =
@@ -68,7 +69,7 @@ returns-in-Moment g c =
     ap (MomentEntry c.in-Moment.clock)
     (get_or_read p.moments c.in-Moment.index c.index.result.now
     (subst (λ (x : Compact). IsStored p x) c.in-Moment.is c.requires.stored) c.index.ensures 0)
-    ∙ sym (ap (decoded c.args.base (parts_of c.args.self.now)) c.in-Moment.is)
+    ∙ sym (ap (read_compact c.args.base (parts_of c.args.self.now)) c.in-Moment.is)
 
 pub returns-in-Whole : goal.returns-in-Whole
 returns-in-Whole g c =
@@ -77,7 +78,7 @@ returns-in-Whole g c =
     ∙ (get_or_read p.wholes c.in-Whole.index c.index-in-Whole.result.now
     (subst (λ (x : Compact). IsStored p x) c.in-Whole.is c.requires.stored)
     c.index-in-Whole.ensures (TripEntry 0)
-    ∙ sym (ap (decoded c.args.base (parts_of c.args.self.now)) c.in-Whole.is))
+    ∙ sym (ap (read_compact c.args.base (parts_of c.args.self.now)) c.in-Whole.is))
 
 pub index-requires : goal.index-requires
 index-requires g c =

@@ -8,9 +8,9 @@ pub store_copy-requires-clause-room : goal.store_copy-requires-clause-room
 store_copy-requires-clause-room g c =
     room-still c.args.self.now c.store_short.new.self 1 c.in-None.ensures c.requires.room
 
-pub store_copy-requires-clause-few : goal.store_copy-requires-clause-few
-store_copy-requires-clause-few g c =
-    few-still c.args.self.now c.store_short.new.self c.in-None.ensures c.requires.few
+pub store_copy-requires-clause-within : goal.store_copy-requires-clause-within
+store_copy-requires-clause-within g c =
+    few-still c.args.self.now c.store_short.new.self c.in-None.ensures c.requires.within
 
 pub returns-in-Some : goal.returns-in-Some
 returns-in-Some g c = c.in-Some.ensures

@@ -18,4 +18,4 @@ returns-in_err-length g c =
     let t = c.one_text.ensures in
     shows-none _ _ _ _ _ c.from_residual-in_err-length.ensures
     (texts-kept c.args.self.now c.one_text.new.texts c.one_text.new.hints
-    (t.none c.in_err-length.was) (t.same c.in_err-length.was))
+    (t.none c.in_err-length.was) (t.unchanged c.in_err-length.was))

@@ -8,9 +8,9 @@ pub store_whole_call-requires-clause-room : goal.store_whole_call-requires-claus
 store_whole_call-requires-clause-room g c =
     room-still c.args.self.now c.store_short_call.new.self 1 c.in-None.ensures c.requires.room
 
-pub store_whole_call-requires-clause-few : goal.store_whole_call-requires-clause-few
-store_whole_call-requires-clause-few g c =
-    few-still c.args.self.now c.store_short_call.new.self c.in-None.ensures c.requires.few
+pub store_whole_call-requires-clause-within : goal.store_whole_call-requires-clause-within
+store_whole_call-requires-clause-within g c =
+    few-still c.args.self.now c.store_short_call.new.self c.in-None.ensures c.requires.within
 
 pub returns-in-Some : goal.returns-in-Some
 returns-in-Some g c = c.in-Some.ensures

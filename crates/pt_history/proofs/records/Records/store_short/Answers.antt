@@ -1,12 +1,12 @@
 use Rattle.std.proofs.Common.{sym, subst}
 use Rattle.pt_model.specs.declared.entry.Entry.{Entry}
 use Rattle.pt_history.specs.Records.{ShowsIfSome}
-use Rattle.pt_history.proofs.Growing.{shows-alone}
+use Rattle.pt_history.proofs.Growing.{shows-single}
 use Rattle.pt_history.proofs.records.Records.store_short.Goals as goal
 
 pub returns-in_default : goal.returns-in_default
 returns-in_default g c =
-    shows-alone _ _ _ _ c.alone.ensures
+    shows-single _ _ _ _ c.single_entry.ensures
 
 pub returns-in-Call : goal.returns-in-Call
 returns-in-Call g c =

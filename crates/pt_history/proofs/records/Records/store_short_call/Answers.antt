@@ -1,6 +1,6 @@
 use Rattle.std.proofs.Common.{◌∙◌, refl}
 use Rattle.pt_model.specs.declared.entry.Entry.TheVariants.{Call as CallEntry}
-use Rattle.pt_history.proofs.Seen.{told-if}
+use Rattle.pt_history.proofs.Views.{told-if}
 use Rattle.pt_history.proofs.Absent.{shows-none}
 use Rattle.pt_history.proofs.records.Records.store_short_call.Goals as goal
 

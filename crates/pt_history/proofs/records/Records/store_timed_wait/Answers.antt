@@ -22,4 +22,4 @@ returns-in_err-first g c =
     let t = c.two_texts.ensures in
     shows-none _ _ _ _ _ c.from_residual-in_err-first.ensures
     (texts-kept c.args.self.now c.two_texts.new.texts c.two_texts.new.hints
-    (t.none c.in_err-first.was) (t.same c.in_err-first.was))
+    (t.none c.in_err-first.was) (t.unchanged c.in_err-first.was))

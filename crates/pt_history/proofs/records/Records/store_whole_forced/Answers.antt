@@ -6,8 +6,8 @@ use Rattle.pt_history.proofs.records.Records.store_whole_forced.Goals as goal
 pub store_whole-requires-clause-room : goal.store_whole-requires-clause-room
 store_whole-requires-clause-room g c = c.requires.room
 
-pub store_whole-requires-clause-few : goal.store_whole-requires-clause-few
-store_whole-requires-clause-few g c = c.requires.few
+pub store_whole-requires-clause-within : goal.store_whole-requires-clause-within
+store_whole-requires-clause-within g c = c.requires.within
 
 pub returns : goal.returns
 returns g c =

@@ -2,7 +2,7 @@ use Rattle.std.proofs.Common.{ℕ, List, ap, ◌∙◌}
 use Rattle.pt_history.specs.declared.compact.TimeLimit.{TimeLimit}
 use Rattle.pt_history.specs.Compact.{with_limit, text_at}
 use Rattle.pt_history.specs.Records.{parts_of}
-use Rattle.pt_history.proofs.Seen.{limit-read}
+use Rattle.pt_history.proofs.Views.{limit-read}
 use Rattle.pt_history.proofs.records.Records.timed.Goals as goal
 
 pub returns : goal.returns

@@ -1,5 +1,5 @@
 use Rattle.std.proofs.Common.{◌-◌, ap, sym, ◌∙◌, arith}
-use Rattle.pt_model.specs.StartRows.{rows_of}
+use Rattle.pt_model.specs.StartRows.{rows_of_start}
 use Rattle.pt_history.specs.Records.{parts_of}
 use Rattle.pt_history.specs.Stored.{caller_in}
 use Rattle.pt_history.proofs.Found.{stored-at, seen-at, seen-past}
@@ -9,7 +9,8 @@ pub returns-in_err-compact : goal.returns-in_err-compact
 returns-in_err-compact g c =
     let i = c.self.inside in
     c.from_residual.ensures
-    ∙ ap caller_in (sym (seen-past c.args.self.now (rows_of i.start) i.limit i.room c.args.place
+    ∙ ap caller_in (sym (seen-past c.args.self.now
+    (rows_of_start i.start) i.limit i.room c.args.place
     i.records i.entries.items c.deref.result.now c.self.view_is c.deref.ensures.value
     c.in_err-compact.ensures.lookup.3))
 
@@ -30,6 +31,6 @@ returns g c =
     let i = c.self.inside in
     let found = c.in_ok-compact.ensures.lookup in
     c.caller.ensures
-    ∙ ap caller_in (sym (seen-at c.args.self.now (rows_of i.start) i.limit i.room c.args.place
+    ∙ ap caller_in (sym (seen-at c.args.self.now (rows_of_start i.start) i.limit i.room c.args.place
     i.base i.records i.entries.items c.deref.result.now c.in_ok-compact.field-0.now c.self.view_is
     c.self.invariant.3 c.deref.ensures.value found.3.0 found.1))

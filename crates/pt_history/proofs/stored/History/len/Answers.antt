@@ -1,8 +1,8 @@
 use Rattle.std.proofs.Common.{length, ap, sym, ◌∙◌}
-use Rattle.pt_model.specs.StartRows.{rows_of}
+use Rattle.pt_model.specs.StartRows.{rows_of_start}
 use Rattle.pt_history.specs.Stored.{Stored}
 use Rattle.pt_history.proofs.Room.{seen-length}
-use Rattle.pt_history.proofs.Seen.{sum-same}
+use Rattle.pt_history.proofs.Views.{sum-same}
 use Rattle.pt_history.proofs.stored.History.len.Goals as goal
 
 pub returns : goal.returns
@@ -12,5 +12,5 @@ returns g c =
     (ap (λ (s : Stored). s.start.at) c.self.view_is)
     (c.len.ensures
     ∙ (i.entries.ok.0
-    ∙ sym (seen-length c.args.self.now (rows_of i.start) i.start.at i.limit i.room i.records
+    ∙ sym (seen-length c.args.self.now (rows_of_start i.start) i.start.at i.limit i.room i.records
     i.entries.items c.self.view_is)))

@@ -1,14 +1,14 @@
 use Rattle.std.proofs.Common.{◌<◌, ap, sym, ◌∙◌, subst}
 use Rattle.pt_model.specs.declared.entry.Entry.TheVariants.{Call as CallEntry}
-use Rattle.pt_history.specs.Stored.{Stored, pushed}
+use Rattle.pt_history.specs.Stored.{Stored, stored_with}
 use Rattle.pt_history.proofs.stored.History.push_wait.Goals as goal
 
 pub push_any_call-requires : goal.push_any_call-requires
 push_any_call-requires g c =
-    subst (λ (s : Stored). 0 < s.room) (sym c.if-not-push_wait_again.ensures) c.requires
+    subst (λ (s : Stored). 0 < s.room) (sym c.if-not-push_interned_wait.ensures) c.requires
 
-pub returns-then-not-push_wait_again : goal.returns-then-not-push_wait_again
-returns-then-not-push_wait_again g c =
+pub returns-then-not-push_interned_wait : goal.returns-then-not-push_interned_wait
+returns-then-not-push_interned_wait g c =
     c.push_any_call.ensures
-    ∙ ap (pushed (CallEntry c.args.client c.args.call.now c.args.outcome))
-    c.if-not-push_wait_again.ensures
+    ∙ ap (stored_with (CallEntry c.args.client c.args.call.now c.args.outcome))
+    c.if-not-push_interned_wait.ensures

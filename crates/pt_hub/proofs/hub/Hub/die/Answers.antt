@@ -2,13 +2,13 @@ use Rattle.std.proofs.Common.{◌≡◌, ◌<◌, ℕ, List, Option, IfSome, ari
 use Rattle.pt_cells.specs.Cells.{SeenView}
 use Rattle.std.proofs.lemmas.Bool.{false≢true}
 use Rattle.pt_model.specs.Clients.{is_alive}
-use Rattle.pt_legal.specs.Cores.{past}
+use Rattle.pt_legal.specs.Cores.{history_of}
 use Rattle.pt_hub.specs.declared.pass.Receipt.{Receipt}
-use Rattle.pt_hub.specs.Desks.{Desk as Seen, kept, one_if}
+use Rattle.pt_hub.specs.AnsweringCores.{AnsweringCoreView, hub_core, count_if_true}
 use Rattle.pt_hub.specs.Hubs.{HubView, next_place}
 use Rattle.pt_hub.specs.Passes.{LeftView, last_place}
 use Rattle.pt_hub.proofs.HubEvents.{dies}
-use Rattle.pt_hub.proofs.HubLemmas.{hub-died, hub-kept}
+use Rattle.pt_hub.proofs.HubLemmas.{hub-died, hub-hub_core}
 use Rattle.pt_hub.proofs.KnownRefusals.{death-lives}
 use Rattle.pt_hub.proofs.OwnCalls.{own-death}
 use Rattle.pt_hub.proofs.hub.Hub.die.Goals as goal
@@ -18,18 +18,18 @@ pub invariant_of-self : goal.invariant_of-self
 invariant_of-self g c =
     let old : HubView =
     record {
-      desk = c.self.inside.desk;
+      inner = c.self.inside.inner;
       marks = c.self.inside.marks.entries;
-      opened =
-          c.self.inside.opened;
+      session_count =
+          c.self.inside.session_count;
       booked = c.self.inside.tally.total;
     } in
     let new : HubView =
     record {
-      desk = c.die.new.self;
+      inner = c.die.new.self;
       marks = c.self.inside.marks.entries;
-      opened =
-          c.self.inside.opened;
+      session_count =
+          c.self.inside.session_count;
       booked = c.count.new.self.total;
     } in
     hub-died old new c.self.inside.tally c.count.new.self c.self.invariant _ c.in-Some.field-0
@@ -40,9 +40,9 @@ pub returns-clause-alive : goal.returns-clause-alive
 returns-clause-alive g c =
     let old : HubView =
     record {
-      desk = c.self.inside.desk;
+      inner = c.self.inside.inner;
       marks = c.self.inside.marks.entries;
-      opened = c.self.inside.opened;
+      session_count = c.self.inside.session_count;
       booked = c.self.inside.tally.total;
     } in
     rw (← c.self.view_is, ← c.pass.view_is)
@@ -58,12 +58,12 @@ returns-clause-dead g c =
     rw (← c.self.view_is, ← c.pass.view_is)
     elim c.match-die.branch [
       | in-Some w ↦ λ dead. absurd (false≢true (sym dead
-          ∙ death-lives (kept c.self.inside.desk) c.pass.inside.client
+          ∙ death-lives (hub_core c.self.inside.inner) c.pass.inside.client
           w.in-Some.ensures.some.writes.accepted))
-      | in-None w ↦ λ dead. w.self-is ∙ ap (λ (d : Seen). record {
-        desk = d;
+      | in-None w ↦ λ dead. w.self-is ∙ ap (λ (d : AnsweringCoreView). record {
+        inner = d;
         marks = c.self.inside.marks.entries;
-        opened = c.self.inside.opened;
+        session_count = c.self.inside.session_count;
         booked = c.self.inside.tally.total;
       }) w.in-None.ensures.none.1
     ]
@@ -82,26 +82,27 @@ returns-clause-left g c =
     } in
     let count : ℕ × Option SeenView → ℕ = λ p. p.0 in
     let many : c.match-die.deaths.0
-    ≡ one_if (is_alive (past (kept c.self.inside.desk)) c.pass.inside.client) =
+    ≡ count_if_true (is_alive (history_of (hub_core c.self.inside.inner)) c.pass.inside.client) =
     elim c.match-die.branch [
-      | in-Some w ↦ ap count w.deaths-is ∙ sym (ap one_if (death-lives (kept c.self.inside.desk)
+      | in-Some w ↦ ap count w.deaths-is
+          ∙ sym (ap count_if_true (death-lives (hub_core c.self.inside.inner)
           c.pass.inside.client w.in-Some.ensures.some.writes.accepted))
-      | in-None w ↦ ap count w.deaths-is ∙ sym (ap one_if w.in-None.ensures.none.0)
+      | in-None w ↦ ap count w.deaths-is ∙ sym (ap count_if_true w.in-None.ensures.none.0)
     ] in
     rw (← c.self.view_is, ← c.pass.view_is)
     (ap (λ n. left n c.match-die.deaths.0) c.len-died_at.ensures.value
-    ∙ ap (left (next_place c.self.inside.desk)) many)
+    ∙ ap (left (next_place c.self.inside.inner)) many)
 
 pub invariant_of-self-in-None : goal.invariant_of-self-in-None
 invariant_of-self-in-None g c =
     let old : HubView =
     record {
-      desk = c.self.inside.desk;
+      inner = c.self.inside.inner;
       marks = c.self.inside.marks.entries;
-      opened = c.self.inside.opened;
+      session_count = c.self.inside.session_count;
       booked = c.self.inside.tally.total;
     } in
-    hub-kept old c.die.new.self c.self.inside.tally c.self.invariant c.in-None.ensures.none.1
+    hub-hub_core old c.die.new.self c.self.inside.tally c.self.invariant c.in-None.ensures.none.1
 
 -- what the client leaves has seen its Death, if anything, above its calls
 pub invariant_of-result : goal.invariant_of-result
@@ -114,10 +115,11 @@ invariant_of-result g c =
         c.pass.invariant.2,
         c.pass.invariant.3,
         record {
-          own = own-death (kept c.self.inside.desk) (kept c.die.new.self) c.die.new.self.core
+          own = own-death (hub_core c.self.inside.inner)
+              (hub_core c.die.new.self) c.die.new.self.core
               w.seen_after.result w.in-Some.field-0 c.pass.inside.client c.len-died_at.result
               w.in-Some.ensures.some.writes c.len-died_at.ensures.value
-              w.seen_after.ensures.there w.seen_after.ensures.entry;
+              w.seen_after.ensures.stored w.seen_after.ensures.entry;
           last = subst (λ (n : ℕ). IfSome w.seen_after.result
               (λ s. last_place n c.pass.inside.receipts.items < c.len-died_at.result))
               c.client.view_is

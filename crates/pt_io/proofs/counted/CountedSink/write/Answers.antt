@@ -17,11 +17,11 @@ returns-in-Ok-clause-none g c =
 
 pub returns-in_default-clause-none : goal.returns-in_default-clause-none
 returns-in_default-clause-none g c =
-    counted_none (length c.self.inside.rejections.items) c.write_again-wrote.result
+    counted_none (length c.self.inside.rejections.items) c.retry_write-wrote.result
     c.in_default.field-0 c.args.buf.now c.self.view_is refl c.in_default.is
 
 pub returns-in-Ok-clause-bound : goal.returns-in-Ok-clause-bound
-returns-in-Ok-clause-bound g c = rw c.in-Ok.is at c.write_again-wrote.ensures.bound
+returns-in-Ok-clause-bound g c = rw c.in-Ok.is at c.retry_write-wrote.ensures.bound
 
 pub returns-in-Ok-clause-count : goal.returns-in-Ok-clause-count
 returns-in-Ok-clause-count g c =
@@ -34,8 +34,8 @@ returns-in-Ok-clause-bytes g c =
 
 pub slice_bounds-note-end : goal.slice_bounds-note-end
 slice_bounds-note-end g c =
-    front c.in-Ok.n c.args.buf.now (rw c.in-Ok.is at c.write_again-wrote.ensures.bound)
+    front c.in-Ok.n c.args.buf.now (rw c.in-Ok.is at c.retry_write-wrote.ensures.bound)
 
 pub slice_bounds-note-end-in-Ok : goal.slice_bounds-note-end-in-Ok
 slice_bounds-note-end-in-Ok g c =
-    front c.in-Ok.n c.args.buf.now (rw c.in-Ok.is at c.write_again-wrote.ensures.bound)
+    front c.in-Ok.n c.args.buf.now (rw c.in-Ok.is at c.retry_write-wrote.ensures.bound)

@@ -1,5 +1,5 @@
 use Rattle.std.proofs.Common.{◌≡◌, ◌+◌, ◌∙◌, ap, take, drop, ◌<◌, length, subst, sym}
-use Rattle.pt_grammar.specs.Lines.{Held}
+use Rattle.pt_grammar.specs.Lines.{CutterView}
 use Rattle.pt_grammar.specs.Reading.{call_read}
 use Rattle.pt_lines.proofs.CutLemmas.{called_in_place, front_dropped}
 use Rattle.pt_lines.proofs.FrontLemmas.{one_more, front_before}
@@ -8,14 +8,14 @@ use Rattle.pt_lines.proofs.cutter.Cutter.next_call_line.Goals as goal
 pub returns-clause-some : goal.returns-clause-some
 returns-clause-some g c =
     let end = c.in-Some.end in
-    let rest : c.self.inside.held.items ≡ c.args.self.now.rest =
-    ap (λ (h : Held). h.rest) c.self.view_is in
+    let rest : c.self.inside.buffer.items ≡ c.args.self.now.rest =
+    ap (λ (h : CutterView). h.rest) c.self.view_is in
     let text = c.as_slice-text.ensures ∙ rest in
     called_in_place c.args.self.now c.advance.new.self.items c.self.inside.dropping end
     c.read_call-reading.result c.in-Some.ensures
     (c.read_call-reading.ensures.value ∙ ap (λ xs. call_read (take end xs)) text)
     (c.advance.ensures.items ∙ ap (λ xs. drop (end + 1) xs) rest)
-    (ap (λ (h : Held). h.dropping) c.self.view_is)
+    (ap (λ (h : CutterView). h.dropping) c.self.view_is)
 
 pub returns-clause-fewer : goal.returns-clause-fewer
 returns-clause-fewer g c =
@@ -30,7 +30,7 @@ returns-in_default g c = record {
     given = c.in_ok-cut.ensures.given;
   };
   none = tt;
-  same = tt;
+  unchanged = tt;
   fewer = c.in_ok-cut.ensures.fewer;
 }
 
@@ -40,21 +40,21 @@ returns-in_err-cut g c =
     (record {
       some = tt;
       none = c.in_err-cut.ensures.none;
-      same = c.in_err-cut.ensures.given;
+      unchanged = c.in_err-cut.ensures.given;
       fewer = tt;
     })
 
 pub advance-requires : goal.advance-requires
 advance-requires g c =
     let within =
-    subst (λ (h : Held). c.in-Some.end < length h.rest) (sym c.self.view_is)
+    subst (λ (h : CutterView). c.in-Some.end < length h.rest) (sym c.self.view_is)
     c.in-Some.ensures.within in
-    one_more c.in-Some.end (length c.self.inside.held.items) within
+    one_more c.in-Some.end (length c.self.inside.buffer.items) within
 
 pub slice_bounds-read_call-end : goal.slice_bounds-read_call-end
 slice_bounds-read_call-end g c =
     let within =
-    subst (λ (h : Held). c.in-Some.end < length h.rest) (sym c.self.view_is)
+    subst (λ (h : CutterView). c.in-Some.end < length h.rest) (sym c.self.view_is)
     c.in-Some.ensures.within in
-    front_before c.in-Some.end c.as_slice-text.result.now c.self.inside.held.items
+    front_before c.in-Some.end c.as_slice-text.result.now c.self.inside.buffer.items
     c.as_slice-text.ensures within

@@ -5,5 +5,5 @@ abbrev pub invariant-loop-number : goal.invariant-loop-number
 invariant-loop-number g l =
     ((c : ℕ) → c < l.number → (g.W.WaitList.seen l.list).admitted c ≡ true)
     × ((c : ℕ) → l.number ≤ c → (g.W.WaitList.seen l.list).admitted c ≡ false)
-    × ((q : ℕ) → (g.W.WaitList.seen l.list).made q ≡ (g.W.WaitList.seen l.fn.list).made q)
+    × ((q : ℕ) → (g.W.WaitList.seen l.list).is_queue q ≡ (g.W.WaitList.seen l.fn.list).is_queue q)
     × ((q : ℕ) → (g.W.WaitList.seen l.list).queue q ≡ (g.W.WaitList.seen l.fn.list).queue q)

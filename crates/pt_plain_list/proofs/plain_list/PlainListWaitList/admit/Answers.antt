@@ -1,6 +1,6 @@
 use Rattle.std.proofs.Common.{◌+◌, ◌≤◌, ◌==◌, ◌||◌, ◌++◌, ◌∷◌, [], vec_len, vec_capacity, refl, sym}
 use Rattle.std.proofs.Common.{ap, ◌∙◌, subst}
-use Rattle.pt_waitq.specs.Waits.{AllStand, waits_of, is_listed, has_waiter, is_admitted, is_made}
+use Rattle.pt_waitq.specs.Waits.{AllQueued, waits_of, is_listed, has_waiter, is_admitted, has_queue}
 use Rattle.pt_waitq.specs.Waits.{queue_in}
 use Rattle.pt_plain_list.proofs.AdmittedLemmas.{admitted-more}
 use Rattle.pt_plain_list.proofs.RoomLemmas.{room-wider, room-same, room-pushed, room-beside}
@@ -19,7 +19,7 @@ pub invariant_of-self-then-is_err-2 : goal.invariant_of-self-then-is_err-2
 invariant_of-self-then-is_err-2 g c =
     let idle = c.reserve.ensures in
     let waiting = c.reserve-else-is_err.ensures in (
-      subst (AllStand c.self.inside.objects.items) (sym waiting.items) c.self.invariant.0,
+      subst (AllQueued c.self.inside.objects.items) (sym waiting.items) c.self.invariant.0,
       room-wider _ _ _ _ _ _ idle.len waiting.len idle.capacity c.self.invariant.1,
       room-wider _ _ _ _ _ _ idle.len waiting.len waiting.capacity c.self.invariant.2,
     )
@@ -35,7 +35,7 @@ invariant_of-self-2 g c =
     (vec_len c.reserve-else-is_err.new.self + (c.len-waiting.result + 1)
     ≤ vec_capacity c.reserve-else-is_err.new.self)
     c.reserve-else-is_err.result c.if-is_err-2.ensures.value waiting.ok in (
-      subst (AllStand c.self.inside.objects.items) (sym waiting.items) c.self.invariant.0,
+      subst (AllQueued c.self.inside.objects.items) (sym waiting.items) c.self.invariant.0,
       room-pushed _ _ _ _ _ _ _ room c.len-idle.ensures waiting.len pushed.len pushed.capacity,
       room-beside _ _ _ _ _ _ beside c.len-waiting.ensures c.reserve.ensures.len pushed.len,
     )
@@ -64,5 +64,5 @@ returns-clause-queues g c = λ q.
     c.reserve-else-is_err.ensures.items
     ∙ ap (λ w. queue_in w q) c.self.view_is
 
-pub returns-clause-made : goal.returns-clause-made
-returns-clause-made g c = λ q. ap (λ w. is_made w q) c.self.view_is
+pub returns-clause-is_queue : goal.returns-clause-is_queue
+returns-clause-is_queue g c = λ q. ap (λ w. has_queue w q) c.self.view_is

@@ -1,7 +1,7 @@
 use Rattle.std.proofs.Common.{ℕ, ◌==◌, cond, ap, ◌∙◌, arith}
 use Rattle.pt_waitq.specs.declared.waiter.Waiter.{Waiter}
 use Rattle.pt_waitq.specs.Queues.{insert_in_order}
-use Rattle.pt_waitq.specs.Waits.{queue_of, is_admitted, is_made}
+use Rattle.pt_waitq.specs.Waits.{queue_of, is_admitted, has_queue}
 use Rattle.pt_waitq.specs.QueueLemmas.{queue_of-more}
 use Rattle.pt_waitq.proofs.ChangeLemmas.{none-stands, idle-if, stand-in, queue-change}
 use Rattle.pt_plain_list.proofs.plain_list.PlainListWaitList.insert.Goals as goal
@@ -18,11 +18,11 @@ invariant_of-self g c =
     let stand = c.self.invariant.0 in
     let entry : ℕ × Waiter = (c.args.object, c.args.waiter) in
     let none = none-stands _ _ _ _ c.args.waiter.client c.self.view_is stand c.requires.nowhere in
-    let made = ap (λ w. is_made w c.args.object) c.self.view_is ∙ c.requires.made in
+    let is_queue = ap (λ w. has_queue w c.args.object) c.self.view_is ∙ c.requires.is_queue in
     let room = c.put_in.ensures in
     let was = c.self.invariant in (
       stand-in c.self.inside.objects.items c.self.inside.waiting.items _ entry
-          stand made none room.entries,
+          stand is_queue none room.entries,
       omega (arith, room.bound, room.idle, was.1),
       omega (arith, room.bound, room.waiting, was.2),
     )
@@ -34,9 +34,9 @@ returns-clause-queues g c = λ q.
     let waiter = c.args.waiter in
     let es = c.self.inside.waiting.items in
     let none = none-stands _ _ _ _ waiter.client c.self.view_is stand c.requires.nowhere in
-    let made = ap (λ w. is_made w object) c.self.view_is ∙ c.requires.made in
+    let is_queue = ap (λ w. has_queue w object) c.self.view_is ∙ c.requires.is_queue in
     let entries = c.put_in.ensures.entries in
-    let now = stand-in c.self.inside.objects.items es _ (object, waiter) stand made none entries in
+    let now = stand-in c.self.inside.objects.items es _ (object, waiter) stand is_queue none entries in
     let step = ap (queue_of q) entries ∙ queue_of-more q es (object, waiter) in
     queue-change _ _ _ _ _ _ c.self.view_is stand now
     (λ ws. cond (object == q) (insert_in_order waiter ws) ws) q step

@@ -1,5 +1,5 @@
 use Rattle.std.proofs.Common.{ap, refl, sym, subst, ◌∙◌, ◌++◌, ◌∷◌, [], ◌==◌, ◌||◌}
-use Rattle.pt_waitq.specs.Waits.{AllStand, is_listed, is_made}
+use Rattle.pt_waitq.specs.Waits.{AllQueued, is_listed, has_queue}
 use Rattle.pt_waitq.proofs.ChangeLemmas.{stand-more, queue-change, listed-more}
 use Rattle.std.proofs.Common.{◌+◌, ◌≤◌, vec_len, vec_capacity}
 use Rattle.pt_waitq.specs.Waits.{is_admitted}
@@ -28,11 +28,11 @@ returns-clause-ok g c = λ q.
     ap (is_listed q)
     (c.push_reserved.ensures.items ∙ ap (λ os. os ++ object ∷ []) c.reserve.ensures.items)
     ∙ (listed-more object q c.self.inside.objects.items
-    ∙ ap (λ w. (object == q) || is_made w q) c.self.view_is)
+    ∙ ap (λ w. (object == q) || has_queue w q) c.self.view_is)
 
 pub invariant_of-self : goal.invariant_of-self
 invariant_of-self g c = (
-  subst (λ os. AllStand os c.self.inside.waiting.items) (sym c.reserve.ensures.items)
+  subst (λ os. AllQueued os c.self.inside.waiting.items) (sym c.reserve.ensures.items)
       c.self.invariant.0,
   c.self.invariant.1,
   c.self.invariant.2,

@@ -1,8 +1,8 @@
 use Rattle.std.proofs.Common.{ℕ, ◌==◌, not, ap, ◌∙◌, arith}
 use Rattle.pt_waitq.specs.declared.waiter.Waiter.{Waiter}
-use Rattle.pt_waitq.specs.Queues.{without}
+use Rattle.pt_waitq.specs.Queues.{other_waiters}
 use Rattle.pt_waitq.specs.Waits.{queue_of, queue_in}
-use Rattle.pt_waitq.specs.WaitingLemmas.{queue_of-without}
+use Rattle.pt_waitq.specs.WaitingLemmas.{queue_of-other_waiters}
 use Rattle.pt_waitq.proofs.ChangeLemmas.{read-as, found-in, nowhere-in, stand-out, queue-change}
 use Rattle.pt_plain_list.proofs.plain_list.PlainListWaitList.remove.Goals as goal
 
@@ -34,5 +34,5 @@ returns-clause-queues g c = λ q.
     let entries = c.take_out.ensures.entries in
     let now = stand-out _ _ _ kept stand entries in
     let es = c.self.inside.waiting.items in
-    let step = ap (queue_of q) entries ∙ queue_of-without client q es in
-    queue-change _ _ _ _ _ _ c.self.view_is stand now (without client) q step
+    let step = ap (queue_of q) entries ∙ queue_of-other_waiters client q es in
+    queue-change _ _ _ _ _ _ c.self.view_is stand now (other_waiters client) q step

@@ -6,8 +6,8 @@ index-requires g c =
     let i = c.self.inside in
     index-within i.base i.room i.wholes i.shorts c.args.self.now c.self.view_is c.args.i c.requires
 
-pub answer_of-requires-clause-there : goal.answer_of-requires-clause-there
-answer_of-requires-clause-there g c =
+pub answer_of-requires-clause-exists : goal.answer_of-requires-clause-exists
+answer_of-requires-clause-exists g c =
     let i = c.self.inside in
     there-at i.base i.wholes.items c.as_slice.result.now i.shorts c.index.result.now c.args.i
     c.as_slice.ensures.value c.index.ensures

@@ -1,6 +1,6 @@
 use Rattle.std.proofs.Common.{◌≡◌, ◌++◌, ◌∷◌, [], ap, ◌∙◌, subst, sym}
-use Rattle.pt_records.specs.AnswerLogs.{AreReadable, lengthened_all}
-use Rattle.pt_records.proofs.Shortened.{lengthened-push, readable-push}
+use Rattle.pt_records.specs.AnswerLogs.{AreReadable, answers_of_shorts}
+use Rattle.pt_records.proofs.Shortened.{answer_of_short-push, readable-push}
 use Rattle.pt_records.proofs.LogRoom.{room-left, room-less, room-after, shorts-left, wholes-left}
 use Rattle.pt_records.proofs.answer_log.AnswerLog.push_far.Goals as goal
 
@@ -12,15 +12,16 @@ returns-clause-items g c =
     let shorts = i.shorts.items in
     let b = c.base_with-self-inside.result in
     let one = c.shortened-short.ensures in
-    let same : lengthened_all b ws shorts ≡ lengthened_all i.base ws shorts =
-    subst (λ ss. lengthened_all b ws ss ≡ lengthened_all i.base ws ss) c.as_slice.ensures.value
-    (c.base_with-self-inside.ensures.same ws) in
+    let same : answers_of_shorts b ws shorts ≡ answers_of_shorts i.base ws shorts =
+    subst (λ ss. answers_of_shorts b ws ss
+    ≡ answers_of_shorts i.base ws ss) c.as_slice.ensures.value
+    (c.base_with-self-inside.ensures.unchanged ws) in
     let readable : AreReadable b ws shorts = record {
       base = c.base_with-self-inside.ensures.base;
       there = c.self.invariant.0.there;
     } in
-    ap (λ ss. lengthened_all b vs ss) c.push_reserved.ensures.items
-    ∙ (lengthened-push b ws vs one.more shorts c.shortened-short.result c.args.answer one.grown
+    ap (λ ss. answers_of_shorts b vs ss) c.push_reserved.ensures.items
+    ∙ (answer_of_short-push b ws vs one.more shorts c.shortened-short.result c.args.answer one.grown
     readable one.same
     ∙ ap (λ xs. xs ++ c.args.answer ∷ []) (same ∙ ap (λ s. s.items) c.self.view_is))
 

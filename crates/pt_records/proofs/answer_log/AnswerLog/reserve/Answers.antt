@@ -18,8 +18,8 @@ grow-requires g c =
     (more-asked i.room c.args.many c.saturating_add.result c.if-many-self.false
     c.ranges.many.fits c.saturating_add.ensures))
 
-pub returns-clause-enough : goal.returns-clause-enough
-returns-clause-enough g c = λ enough.
+pub returns-clause-succeeds_if : goal.returns-clause-succeeds_if
+returns-clause-succeeds_if g c = λ enough.
     let i = c.self.inside in
     absurd (room-short i.base i.room i.wholes i.shorts c.args.self.now c.self.view_is c.args.many
     c.if-many-self.false enough)

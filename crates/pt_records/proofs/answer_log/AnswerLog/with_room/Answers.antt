@@ -1,5 +1,5 @@
 use Rattle.std.proofs.Common.{ap}
-use Rattle.pt_records.specs.AnswerLogs.{lengthened_all}
+use Rattle.pt_records.specs.AnswerLogs.{answers_of_shorts}
 use Rattle.pt_records.proofs.LogRoom.{readable-none, room-got, room-more, low-base}
 use Rattle.pt_records.proofs.answer_log.AnswerLog.with_room.Goals as goal
 
@@ -15,7 +15,8 @@ invariant_of-result g c =
 
 pub returns-clause-items : goal.returns-clause-items
 returns-clause-items g c =
-    ap (lengthened_all 0 c.in_ok-with_capacity-2.field-0.items) c.in_ok-with_capacity.ensures.items
+    ap (answers_of_shorts 0 c.in_ok-with_capacity-2.field-0.items)
+    c.in_ok-with_capacity.ensures.items
 
 pub returns-clause-room : goal.returns-clause-room
 returns-clause-room g c = room-more c.in_ok-with_capacity.field-0.len c.args.room

@@ -14,8 +14,8 @@ invariant_of-self c =
 pub answer_of-requires-clause-base : goal.answer_of-requires-clause-base
 answer_of-requires-clause-base c = c.self.invariant.base
 
-pub answer_of-requires-clause-there : goal.answer_of-requires-clause-there
-answer_of-requires-clause-there c =
+pub answer_of-requires-clause-exists : goal.answer_of-requires-clause-exists
+answer_of-requires-clause-exists c =
     let i = c.self.inside in
     there-first i.base i.wholes.now i.shorts.now c.in_ok-first.rest.now c.in_ok-first.first.now
     c.in_ok-first.ensures.cases.0 c.self.invariant

@@ -3,7 +3,7 @@ use Rattle.std.specs.Prelude.{IfSome}
 use Rattle.std.specs.Map.{lookup}
 use Rattle.std.specs.Ordering.{nat_cmp}
 use Rattle.std.specs.BTreeMap.{is_at}
-use Rattle.pt_rwlock.proofs.SeenRows.{boxed-seen}
+use Rattle.pt_rwlock.proofs.ViewRows.{boxed-seen}
 use Rattle.pt_rwlock.proofs.boxed.BoxedRows.take_read.Goals as goal
 
 pub take_read-requires-clause-some : goal.take_read-requires-clause-some

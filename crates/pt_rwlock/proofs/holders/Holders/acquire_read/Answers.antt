@@ -9,7 +9,7 @@ overflow_add-self g c =
       readers-most c.self.inside.reads,
       c.self.invariant,
       c.len-rows.ensures.len,
-      c.len-rows.ensures.small,
+      c.len-rows.ensures.within,
     )
 
 pub invariant_of-self : goal.invariant_of-self

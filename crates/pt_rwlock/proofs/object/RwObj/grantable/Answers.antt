@@ -1,8 +1,8 @@
 use Rattle.std.proofs.Common.{◌≡◌, false}
 use Rattle.pt_waitq.specs.declared.waiter.Waiter.{Waiter}
 use Rattle.pt_rwlock.specs.AwaitedLock.{SaysBlocked}
-use Rattle.pt_rwlock.specs.RwlockState.{may_have}
-use Rattle.pt_rwlock.proofs.SeenRows.{first-writes, none-holds, some-holds}
+use Rattle.pt_rwlock.specs.RwlockState.{is_grantable_to}
+use Rattle.pt_rwlock.proofs.ViewRows.{first-writes, none-holds, some-holds}
 use Rattle.pt_rwlock.proofs.object.RwObj.grantable.Goals as goal
 
 pub returns-in-Some-clause-some : goal.returns-in-Some-clause-some
@@ -18,4 +18,4 @@ pub returns-in-None-clause-some : goal.returns-in-None-clause-some
 returns-in-None-clause-some g c = λ blocked.
     none-holds c.args.first
     (λ (w : Waiter). SaysBlocked c.args.self.now w.prio blocked
-    → false ≡ may_have c.args.self.now.lock w blocked) c.in-None.is
+    → false ≡ is_grantable_to c.args.self.now.lock w blocked) c.in-None.is

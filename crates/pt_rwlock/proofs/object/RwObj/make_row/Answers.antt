@@ -2,7 +2,7 @@ use Rattle.std.proofs.Common.{Some, ap, subst}
 use Rattle.std.specs.Prelude.{OnOk}
 use Rattle.pt_rwlock.specs.RwlockState.{RwlockState, ChangesRow, reads_of}
 use Rattle.pt_rwlock.specs.AwaitedLock.{AwaitedLock}
-use Rattle.pt_rwlock.proofs.SeenRows.{row-awaited, same-awaited}
+use Rattle.pt_rwlock.proofs.ViewRows.{row-awaited, same-awaited}
 use Rattle.pt_rwlock.proofs.object.RwObj.make_row.Goals as goal
 
 pub returns-clause-row : goal.returns-clause-row
@@ -17,7 +17,7 @@ returns-clause-ok g c =
     c.self.inside.waiting_writers c.args.self.now c.self.view_is c.args.client
     c.make_row.ensures.ok
 
-pub returns-clause-err : goal.returns-clause-err
-returns-clause-err g c =
+pub returns-clause-unchanged : goal.returns-clause-unchanged
+returns-clause-unchanged g c =
     same-awaited c.make_row.result c.self.inside.holders c.make_row.new.self
-    c.self.inside.waiting_writers c.args.self.now c.self.view_is c.make_row.ensures.err
+    c.self.inside.waiting_writers c.args.self.now c.self.view_is c.make_row.ensures.unchanged

@@ -9,11 +9,11 @@ pub set-requires-clause-place : goal.set-requires-clause-place
 set-requires-clause-place g c =
     c.note_place_of-place.ensures.place
     ∙ sym (ap (λ (xs : List (ℕ × ℕ)). place_in xs c.args.client)
-    c.note_place_of-place.ensures.same)
+    c.note_place_of-place.ensures.unchanged)
 
 pub returns-clause-others : goal.returns-clause-others
 returns-clause-others g c = λ other.
     c.set.ensures.others other
     ∙ ap (λ (xs : List (ℕ × ℕ)). cond (c.args.client == other) (Some (c.reads-before.result + 1))
     (lookup (is_at (nat_cmp other)) xs))
-    c.note_place_of-place.ensures.same
+    c.note_place_of-place.ensures.unchanged

@@ -3,7 +3,7 @@ use Rattle.std.specs.Map.{lookup}
 use Rattle.std.specs.Ordering.{nat_cmp}
 use Rattle.std.specs.BTreeMap.{is_at, insert_entry}
 use Rattle.pt_rwlock.specs.RowPlaces.{IsInOrder, place_in}
-use Rattle.pt_rwlock.proofs.SeenRows.{whenever-err}
+use Rattle.pt_rwlock.proofs.ViewRows.{whenever-err}
 use Rattle.pt_rwlock.proofs.rows.Rows.insert.Goals as goal
 
 pub count_below-place-requires : goal.count_below-place-requires
@@ -33,7 +33,7 @@ returns-clause-others g c = λ other.
     ∙ ap (λ (xs : List (ℕ × ℕ)). cond (c.args.client == other) (Some 0)
     (lookup (is_at (nat_cmp other)) xs)) c.self.view_is
 
-pub returns-in_err-insert_at-clause-err : goal.returns-in_err-insert_at-clause-err
-returns-in_err-insert_at-clause-err g c =
+pub returns-in_err-insert_at-clause-unchanged : goal.returns-in_err-insert_at-clause-unchanged
+returns-in_err-insert_at-clause-unchanged g c =
     whenever-err c.from_residual-in_err-insert_at.result
-    (c.in_err-insert_at.ensures.err ∙ c.self.view_is)
+    (c.in_err-insert_at.ensures.unchanged ∙ c.self.view_is)

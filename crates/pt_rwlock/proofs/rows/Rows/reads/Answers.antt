@@ -10,7 +10,7 @@ unwrap-requires g c =
     ∙ ap (λ rows. reads_for c.args.client (slice_get rows c.args.place)) c.as_slice.ensures.value
     ∙ found-there c.self.inside.rows.items c.args.self.now c.args.client c.args.place
     c.self.view_is c.self.invariant c.requires.place)
-    ∙ c.requires.there
+    ∙ c.requires.exists
 
 pub returns : goal.returns
 returns g c =

@@ -49,7 +49,7 @@ index_mut-requires g c =
     let items = c.self.inside.rows.items in
     let now = c.args.self.now in
     let within = found-within items c.args.client c.self.invariant
-    (some-is items now c.args.client c.self.view_is c.requires.there) in
+    (some-is items now c.args.client c.self.view_is c.requires.exists) in
     let at = place-is items now c.args.client c.args.place c.self.view_is c.requires.place in
     omega (arith, within, at)
 
@@ -57,18 +57,18 @@ pub invariant_of-self : goal.invariant_of-self
 invariant_of-self g c =
     subst IsInOrder
     (sym (set-own c.self.inside.rows.items c.args.self.now c.args.client c.args.place c.args.reads
-    c.index_mut.result.now c.self.view_is c.self.invariant c.requires.place c.requires.there
+    c.index_mut.result.now c.self.view_is c.self.invariant c.requires.place c.requires.exists
     c.index_mut.ensures.value))
     (order-set c.self.inside.rows.items c.args.client c.args.reads c.self.invariant)
 
 pub returns-clause-rows : goal.returns-clause-rows
 returns-clause-rows g c =
     set-own c.self.inside.rows.items c.args.self.now c.args.client c.args.place c.args.reads
-    c.index_mut.result.now c.self.view_is c.self.invariant c.requires.place c.requires.there
+    c.index_mut.result.now c.self.view_is c.self.invariant c.requires.place c.requires.exists
     c.index_mut.ensures.value
     ∙ ap (λ rows. set_value (is_at (nat_cmp c.args.client)) rows c.args.reads) c.self.view_is
 
 pub returns-clause-others : goal.returns-clause-others
 returns-clause-others g c = λ other.
     ap (lookup (is_at (nat_cmp other))) (returns-clause-rows g c)
-    ∙ lookup-set c.args.self.now c.args.client c.args.reads other c.requires.there
+    ∙ lookup-set c.args.self.now c.args.client c.args.reads other c.requires.exists

@@ -1,7 +1,7 @@
 use Rattle.std.proofs.Common.{◌≤◌, ℕ, refl, ap, ◌∙◌, length, List, sym, subst}
 use Rattle.pt_table.specs.declared.objects.ObjectRow.{ObjectRow}
-use Rattle.pt_model.specs.StartRows.{reads_of}
-use Rattle.pt_history.specs.Stored.{past_of}
+use Rattle.pt_model.specs.StartRows.{start_of_rows}
+use Rattle.pt_history.specs.Stored.{stored_history}
 use Rattle.pt_records.specs.declared.objects.Object.{Object}
 use Rattle.pt_state.specs.Reads.{Reads}
 use Rattle.pt_state.proofs.SealedTables.{tables-sealed}
@@ -17,25 +17,25 @@ returns-clause-ok g c =
     } in
     let there = c.replace.ensures.after in
     let empty = c.replace-2.ensures.after in
-    let starts = ap (λ s. reads_of s.start) there ∙ c.in_ok-stored.ensures.starts in
+    let starts = ap (λ s. start_of_rows s.start) there ∙ c.in_ok-stored.ensures.starts in
     let entries = ap (λ s. s.entries) there ∙ c.in_ok-stored.ensures.entries in
     record {
       starts = starts;
       entries = entries;
       limit = ap (λ s. s.limit) there ∙ c.in_ok-stored.ensures.limit;
       room = ap (λ s. s.room) there ∙ c.in_ok-stored.ensures.room;
-      read = tables-sealed old new c.requires.read starts entries refl c.pack.ensures refl refl
+      read = tables-sealed old new c.requires.tables starts entries refl c.pack.ensures refl refl
           (ap (λ l. l.items) empty ∙ c.in-Ok.ensures.items);
       answers = ap (λ l. length l.items) empty ∙ ap length c.in-Ok.ensures.items;
-      held = subst (λ (k : ℕ). c.args.room ≤ k) (sym (ap (λ l. l.capacity) empty))
+      has_capacity = subst (λ (k : ℕ). c.args.room ≤ k) (sym (ap (λ l. l.capacity) empty))
           c.in-Ok.ensures.room;
     }
 
-pub sealed_history-requires-clause-read : goal.sealed_history-requires-clause-read
-sealed_history-requires-clause-read g c = let s = c.args.state.now in
+pub sealed_history-requires-clause-tables : goal.sealed_history-requires-clause-tables
+sealed_history-requires-clause-tables g c = let s = c.args.state.now in
     subst (λ (rows : List (ObjectRow (Object g.row.A.Denot))).
-    Reads (past_of s.stored) s.clients rows s.orphans s.clocks s.answers.items)
-    (sym c.pack.ensures) c.requires.read
+    Reads (stored_history s.stored) s.clients rows s.orphans s.clocks s.answers.items)
+    (sym c.pack.ensures) c.requires.tables
 
 pub sealed_history-requires-clause-places : goal.sealed_history-requires-clause-places
 sealed_history-requires-clause-places g c = c.requires.places

@@ -1,11 +1,11 @@
 use Rattle.std.proofs.Common.{◌≤◌, ℕ, refl, sym, ap, ◌∙◌, subst}
-use Rattle.pt_types.specs.Limits.{most_places}
+use Rattle.pt_types.specs.Limits.{max_place}
 use Rattle.pt_model.specs.Starts.{Start}
-use Rattle.pt_model.specs.StartRows.{reads_of}
+use Rattle.pt_model.specs.StartRows.{start_of_rows}
 use Rattle.pt_state.proofs.sealing.renewing.sealed_history.Goals as goal
 
 pub seal-requires-clause-places : goal.seal-requires-clause-places
-seal-requires-clause-places g c = subst (λ (k : ℕ). k ≤ most_places)
+seal-requires-clause-places g c = subst (λ (k : ℕ). k ≤ max_place)
     (sym (ap (λ (s : Start). s.at) c.in-Ok-start_of.ensures.reads)) c.requires.places
 
 pub seal-requires-clause-counted : goal.seal-requires-clause-counted
@@ -13,7 +13,7 @@ seal-requires-clause-counted g c = c.in-Ok-start_of.ensures.counted
 
 pub returns-in-Ok-start_of-clause-starts : goal.returns-in-Ok-start_of-clause-starts
 returns-in-Ok-start_of-clause-starts g c =
-    ap (λ s. reads_of s.start) c.seal.ensures ∙ c.in-Ok-start_of.ensures.reads
+    ap (λ s. start_of_rows s.start) c.seal.ensures ∙ c.in-Ok-start_of.ensures.reads
 
 pub returns-in-Ok-start_of-clause-entries : goal.returns-in-Ok-start_of-clause-entries
 returns-in-Ok-start_of-clause-entries g c = ap (λ s. s.entries) c.seal.ensures
@@ -38,8 +38,8 @@ returns-in-Err-clause-limit g c = tt
 pub returns-in-Err-clause-room : goal.returns-in-Err-clause-room
 returns-in-Err-clause-room g c = tt
 
-pub returns-in-Err-clause-reason : goal.returns-in-Err-clause-reason
-returns-in-Err-clause-reason g c = refl
+pub returns-in-Err-clause-err : goal.returns-in-Err-clause-err
+returns-in-Err-clause-err g c = refl
 
 pub returns-in_default-clause-starts : goal.returns-in_default-clause-starts
 returns-in_default-clause-starts g c = tt
@@ -53,5 +53,5 @@ returns-in_default-clause-limit g c = tt
 pub returns-in_default-clause-room : goal.returns-in_default-clause-room
 returns-in_default-clause-room g c = tt
 
-pub returns-in_default-clause-reason : goal.returns-in_default-clause-reason
-returns-in_default-clause-reason g c = refl
+pub returns-in_default-clause-err : goal.returns-in_default-clause-err
+returns-in_default-clause-err g c = refl

@@ -1,6 +1,6 @@
 use Rattle.std.proofs.Common.{subst, refl}
 use Rattle.pt_model.specs.Histories.{History}
-use Rattle.pt_history.specs.Stored.{past_of}
+use Rattle.pt_history.specs.Stored.{stored_history}
 use Rattle.pt_state.specs.Reads.{Reads}
 use Rattle.pt_state.proofs.UnsealedTables.{reads-unsealed}
 use Rattle.pt_state.proofs.sealing.renewing.unseal.Goals as goal
@@ -9,10 +9,11 @@ pub returns-clause-read : goal.returns-clause-read
 returns-clause-read g c =
     let s = c.args.state.now in
     let old = c.args.unsealed in
-    reads-unsealed (past_of old.stored) s.clients s.objects s.orphans s.clocks s.answers.items
-    old.answers.items c.requires.follows c.requires.told
+    reads-unsealed (stored_history old.stored) s.clients s.objects s.orphans s.clocks
+    s.answers.items
+    old.answers.items c.requires.follows c.requires.replies
     (subst (λ (h : History). Reads h s.clients s.objects s.orphans s.clocks s.answers.items)
-    c.requires.begins c.requires.read)
+    c.requires.begins c.requires.tables)
 
 pub returns-clause-stored : goal.returns-clause-stored
 returns-clause-stored g c = refl

@@ -5,11 +5,11 @@ use Rattle.pt_types.specs.declared.outcome.Outcome.{Outcome}
 use Rattle.pt_types.specs.declared.outcome.Outcome.TheVariants.{Done, Einval, Ebusy, Eagain}
 use Rattle.pt_types.specs.declared.outcome.Verdict.{Verdict}
 use Rattle.pt_types.specs.declared.outcome.Verdict.TheVariants.{Reply}
-use Rattle.pt_types.specs.Limits.{most_objects}
-use Rattle.pt_types.specs.ObjectTable.{is_bad_kind}
-use Rattle.pt_model.specs.Objects.{object_named, objects}
+use Rattle.pt_types.specs.Limits.{max_objects}
+use Rattle.pt_types.specs.ObjectTable.{is_invalid_kind}
+use Rattle.pt_model.specs.Objects.{object_named, object_count}
 use Rattle.pt_model.specs.Records.{Object}
-use Rattle.pt_state.specs.Adds.{past}
+use Rattle.pt_state.specs.Adds.{history_of}
 use Rattle.pt_state.proofs.state.State.makes_verdict.Goals as goal
 
 -- what an init is answered by the three tests
@@ -39,46 +39,46 @@ done : (bad taken full : Bool) (x : Outcome) → bad ≡ false → taken ≡ fal
     → x ≡ Done → Reply x ≡ tested bad taken full
 done bad taken full x eb et ef ex = rw (eb, et, ef, ex) refl
 
-filled : (rows all n : ℕ) → n ≡ rows → rows ≡ all → most_objects ≤ n
-    → nat_le most_objects all ≡ true
+filled : (rows all n : ℕ) → n ≡ rows → rows ≡ all → max_objects ≤ n
+    → nat_le max_objects all ≡ true
 filled rows all n en er le = grind (arith, nat_tests)
 
-spare : (rows all n : ℕ) → n ≡ rows → rows ≡ all → n < most_objects
-    → nat_le most_objects all ≡ false
+spare : (rows all n : ℕ) → n ≡ rows → rows ≡ all → n < max_objects
+    → nat_le max_objects all ≡ false
 spare rows all n en er lt = grind (arith, nat_tests)
 
 pub returns-in-Reply-Done : goal.returns-in-Reply-Done
 returns-in-Reply-Done g c =
-    let h = past c.args.self.now in
+    let h = history_of c.args.self.now in
     let o = object_named h c.args.n.now in
-    busy (is_bad_kind c.args.kind) (is_some o) (nat_le most_objects (objects h))
-    (good (is_bad_kind c.args.kind) c.in-Reply-Done.field-0 c.in-Reply-Done.ensures
+    busy (is_invalid_kind c.args.kind) (is_some o) (nat_le max_objects (object_count h))
+    (good (is_invalid_kind c.args.kind) c.in-Reply-Done.field-0 c.in-Reply-Done.ensures
     c.in-Reply-Done.field-0-is)
     (named_some c.find.result o (c.find.ensures ∙ c.requires.object_rows.names c.args.n.now)
     ∙ sym c.if-in_use.ensures)
 
 pub returns-in-Reply-Done-2 : goal.returns-in-Reply-Done-2
 returns-in-Reply-Done-2 g c =
-    let h = past c.args.self.now in
+    let h = history_of c.args.self.now in
     let o = object_named h c.args.n.now in
-    many (is_bad_kind c.args.kind) (is_some o) (nat_le most_objects (objects h))
-    (good (is_bad_kind c.args.kind) c.in-Reply-Done.field-0 c.in-Reply-Done.ensures
+    many (is_invalid_kind c.args.kind) (is_some o) (nat_le max_objects (object_count h))
+    (good (is_invalid_kind c.args.kind) c.in-Reply-Done.field-0 c.in-Reply-Done.ensures
     c.in-Reply-Done.field-0-is)
     (named_some c.find.result o (c.find.ensures ∙ c.requires.object_rows.names c.args.n.now)
     ∙ sym c.if-in_use.ensures)
     (filled _ _ c.len.result c.len.ensures.len c.requires.object_rows.many
-    c.if-len-ge-MOST_OBJECTS.true)
+    c.if-len-ge-MAX_OBJECTS.true)
 
 pub returns-in_default : goal.returns-in_default
 returns-in_default g c =
-    let h = past c.args.self.now in
+    let h = history_of c.args.self.now in
     let o = object_named h c.args.n.now in
-    done (is_bad_kind c.args.kind) (is_some o) (nat_le most_objects (objects h))
+    done (is_invalid_kind c.args.kind) (is_some o) (nat_le max_objects (object_count h))
     c.in-Reply-Done.field-0
-    (good (is_bad_kind c.args.kind) c.in-Reply-Done.field-0 c.in-Reply-Done.ensures
+    (good (is_invalid_kind c.args.kind) c.in-Reply-Done.field-0 c.in-Reply-Done.ensures
     c.in-Reply-Done.field-0-is)
     (named_some c.find.result o (c.find.ensures ∙ c.requires.object_rows.names c.args.n.now)
     ∙ sym c.if-in_use.ensures)
     (spare _ _ c.len.result c.len.ensures.len c.requires.object_rows.many
-    c.if-len-ge-MOST_OBJECTS.false)
+    c.if-len-ge-MAX_OBJECTS.false)
     c.in-Reply-Done.field-0-is

@@ -1,22 +1,22 @@
 use Rattle.pt_state.proofs.Handing.{adds-service, ready-grant}
 use Rattle.pt_state.proofs.state.State.push_granted.Goals as goal
 
-pub push_grant_read-requires-clause-ready : goal.push_grant_read-requires-clause-ready
-push_grant_read-requires-clause-ready g c =
-    ready-grant c.args.self.now c.args.found.now c.requires.other c.requires.ready
+pub push_grant_read-requires-clause-has_room : goal.push_grant_read-requires-clause-has_room
+push_grant_read-requires-clause-has_room g c =
+    ready-grant c.args.self.now c.args.found.now c.requires.other c.requires.has_room
 
-pub push_grant_read-requires-clause-known : goal.push_grant_read-requires-clause-known
-push_grant_read-requires-clause-known g c = c.requires.known
+pub push_grant_read-requires-clause-is_open : goal.push_grant_read-requires-clause-is_open
+push_grant_read-requires-clause-is_open g c = c.requires.is_open
 
 pub push_grant_read-requires-clause-role : goal.push_grant_read-requires-clause-role
 push_grant_read-requires-clause-role g c = c.in-ForRead.is
 
-pub push_grant_write-requires-clause-ready : goal.push_grant_write-requires-clause-ready
-push_grant_write-requires-clause-ready g c =
-    ready-grant c.args.self.now c.args.found.now c.requires.other c.requires.ready
+pub push_grant_write-requires-clause-has_room : goal.push_grant_write-requires-clause-has_room
+push_grant_write-requires-clause-has_room g c =
+    ready-grant c.args.self.now c.args.found.now c.requires.other c.requires.has_room
 
-pub push_grant_write-requires-clause-known : goal.push_grant_write-requires-clause-known
-push_grant_write-requires-clause-known g c = c.requires.known
+pub push_grant_write-requires-clause-is_open : goal.push_grant_write-requires-clause-is_open
+push_grant_write-requires-clause-is_open g c = c.requires.is_open
 
 pub push_grant_write-requires-clause-role : goal.push_grant_write-requires-clause-role
 push_grant_write-requires-clause-role g c = c.in-ForWrite.is

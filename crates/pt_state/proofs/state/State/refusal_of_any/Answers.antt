@@ -1,8 +1,8 @@
 use Rattle.std.proofs.Common.{sym, ap, ◌∙◌}
 use Rattle.pt_model.specs.Room.{refusal}
-use Rattle.pt_state.specs.Adds.{past}
+use Rattle.pt_state.specs.Adds.{history_of}
 use Rattle.pt_state.proofs.state.State.refusal_of_any.Goals as goal
 
 pub returns-in-Call : goal.returns-in-Call
 returns-in-Call g c =
-    c.refusal_of_call.ensures ∙ sym (ap (refusal (past c.args.self.now)) c.in-Call.is)
+    c.refusal_of_call.ensures ∙ sym (ap (refusal (history_of c.args.self.now)) c.in-Call.is)

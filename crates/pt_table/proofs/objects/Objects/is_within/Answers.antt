@@ -1,7 +1,7 @@
 use Rattle.std.proofs.Common.{◌≡◌, ◌≤◌, ◌+◌, ℕ, Bool, not, true, false, List, length, Option, Some}
 use Rattle.std.proofs.Common.{None, is_some, refl, sym, subst, arith, true≢false}
 use Rattle.std.specs.Bool.{OnTrue}
-use Rattle.pt_table.specs.Linked.{IsChain}
+use Rattle.pt_table.specs.Linked.{IsRowChain}
 use Rattle.pt_table.proofs.Walked.{IsWalked, walk-begins, walk-on, walk-ends}
 use Rattle.pt_table.proofs.objects.Objects.is_within.Goals as goal
 
@@ -30,8 +30,8 @@ returns g c = go c.is_none.result c.is_none.ensures
     is-none (Some n) e = absurd (true≢false e)
 
     go : (b : Bool) → is_some c.loop.rest ≡ not b
-        → OnTrue b ((ns : List ℕ) → IsChain c.args.self.now c.args.head ns
-        → length ns ≤ c.args.most)
+        → OnTrue b ((ns : List ℕ) → IsRowChain c.args.self.now c.args.head ns
+        → length ns ≤ c.args.max_len)
     go false e = tt
     go true e = λ ns l.
         let steps = walk-ends c.args.self.now c.args.head c.loop.rest c.loop.counter

@@ -1,5 +1,5 @@
 use Rattle.std.proofs.Common.{◌==◌, ◌∙◌, Some, cond, ap}
-use Rattle.pt_table.specs.Linked.{is_linked, is_number, next_number, number_before}
+use Rattle.pt_table.specs.Linked.{is_linked, is_this_number, next_number, number_before}
 use Rattle.pt_table.proofs.Entered.{put-first, keeps-first, head-linked}
 use Rattle.pt_table.proofs.Kept.{or-else}
 use Rattle.pt_table.proofs.objects.Objects.link.Goals as goal
@@ -20,7 +20,7 @@ returns-clause-chain g c = λ numbers l.
     (λ n. c.set_before.ensures.linked n ∙ c.set_own.ensures.linked n)
     (λ n. c.set_before.ensures.next n ∙ c.set_own.ensures.next n)
     (λ n. c.set_before.ensures.before n
-    ∙ ap (cond (is_number c.args.head n) (Some c.args.number)) (c.set_own.ensures.before n))
+    ∙ ap (cond (is_this_number c.args.head n) (Some c.args.number)) (c.set_own.ensures.before n))
     numbers l
 
 pub returns-clause-others : goal.returns-clause-others
@@ -32,7 +32,7 @@ returns-clause-others g c = λ numbers l other others m apart.
     (λ n. c.set_before.ensures.linked n ∙ c.set_own.ensures.linked n)
     (λ n. c.set_before.ensures.next n ∙ c.set_own.ensures.next n)
     (λ n. c.set_before.ensures.before n
-    ∙ ap (cond (is_number c.args.head n) (Some c.args.number)) (c.set_own.ensures.before n))
+    ∙ ap (cond (is_this_number c.args.head n) (Some c.args.number)) (c.set_own.ensures.before n))
     numbers l other others m apart
 
 pub returns-clause-rows : goal.returns-clause-rows

@@ -1,7 +1,7 @@
 use Rattle.std.proofs.Common.{◌∙◌, ap, sym, cond}
-use Rattle.pt_table.specs.Linked.{is_number, is_linked, next_number, number_before}
+use Rattle.pt_table.specs.Linked.{is_this_number, is_linked, next_number, number_before}
 use Rattle.pt_table.proofs.Links.{linked-there, next-found, linked-found, next-once}
-use Rattle.pt_table.proofs.Links.{before-once, linked-once, unlinked-once, written-same}
+use Rattle.pt_table.proofs.Links.{before-once, linked-once, rows_without_links-once, written-same}
 use Rattle.pt_table.proofs.objects.Objects.set_before.Goals as goal
 
 pub link_near-its-requires : goal.link_near-its-requires
@@ -14,7 +14,8 @@ returns-in-Some-clause-before g c = λ n.
     let at = c.in-Some.number in
     before-once rows c.set_link.new.self at _
     (linked-there rows at (c.requires at c.in-Some.is)) c.set_link.ensures n
-    ∙ ap (λ o. cond (is_number o n) c.args.link.before (number_before rows n)) (sym c.in-Some.is)
+    ∙ ap (λ o. cond (is_this_number o n) c.args.link.before (number_before rows n))
+    (sym c.in-Some.is)
 
 pub set_link-requires : goal.set_link-requires
 set_link-requires g c =
@@ -42,5 +43,5 @@ pub returns-in-Some-clause-rows : goal.returns-in-Some-clause-rows
 returns-in-Some-clause-rows g c =
     let rows = c.args.self.now in
     let at = c.in-Some.number in
-    unlinked-once rows c.set_link.new.self at _
+    rows_without_links-once rows c.set_link.new.self at _
     (linked-there rows at (c.requires at c.in-Some.is)) c.set_link.ensures

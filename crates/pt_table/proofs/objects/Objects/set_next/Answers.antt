@@ -1,7 +1,7 @@
 use Rattle.std.proofs.Common.{◌∙◌, ap, sym, cond}
-use Rattle.pt_table.specs.Linked.{is_number, is_linked, next_number, number_before}
+use Rattle.pt_table.specs.Linked.{is_this_number, is_linked, next_number, number_before}
 use Rattle.pt_table.proofs.Links.{linked-there, before-found, linked-found, next-once}
-use Rattle.pt_table.proofs.Links.{before-once, linked-once, unlinked-once, written-same}
+use Rattle.pt_table.proofs.Links.{before-once, linked-once, rows_without_links-once, written-same}
 use Rattle.pt_table.proofs.objects.Objects.set_next.Goals as goal
 
 pub link_near-its-requires : goal.link_near-its-requires
@@ -18,7 +18,7 @@ returns-in-Some-clause-next g c = λ n.
     let at = c.in-Some.number in
     next-once rows c.set_link.new.self at _
     (linked-there rows at (c.requires at c.in-Some.is)) c.set_link.ensures n
-    ∙ ap (λ o. cond (is_number o n) c.args.link.next (next_number rows n)) (sym c.in-Some.is)
+    ∙ ap (λ o. cond (is_this_number o n) c.args.link.next (next_number rows n)) (sym c.in-Some.is)
 
 pub returns-in-Some-clause-before : goal.returns-in-Some-clause-before
 returns-in-Some-clause-before g c = λ n.
@@ -42,5 +42,5 @@ pub returns-in-Some-clause-rows : goal.returns-in-Some-clause-rows
 returns-in-Some-clause-rows g c =
     let rows = c.args.self.now in
     let at = c.in-Some.number in
-    unlinked-once rows c.set_link.new.self at _
+    rows_without_links-once rows c.set_link.new.self at _
     (linked-there rows at (c.requires at c.in-Some.is)) c.set_link.ensures

@@ -1,4 +1,4 @@
-use Rattle.pt_table.proofs.Links.{next-once, before-once, linked-once, unlinked-once}
+use Rattle.pt_table.proofs.Links.{next-once, before-once, linked-once, rows_without_links-once}
 use Rattle.pt_table.proofs.objects.Objects.set_own.Goals as goal
 
 pub returns-clause-next : goal.returns-clause-next
@@ -15,5 +15,5 @@ returns-clause-linked g c =
 
 pub returns-clause-rows : goal.returns-clause-rows
 returns-clause-rows g c =
-    unlinked-once c.args.self.now c.set_link.new.self c.args.number _ c.requires
+    rows_without_links-once c.args.self.now c.set_link.new.self c.args.number _ c.requires
     c.set_link.ensures

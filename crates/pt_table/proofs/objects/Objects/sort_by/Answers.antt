@@ -10,7 +10,7 @@ link_each-requires-clause-rising g c =
     let ns = take c.gather-count.result c.gather-count.new.numbers in
     let ms = c.sort_numbers.new.numbers in
     let moved = subst (λ xs. IsPermutation xs ms) c.split_at_mut-numbers.ensures.front
-    c.sort_numbers.ensures.same in
+    c.sort_numbers.ensures.unchanged in
     sorted-rise c.args.self.now c.args.head ns ms c.gather-count.ensures.chain moved
     c.sort_numbers.ensures.order
 
@@ -20,7 +20,7 @@ link_each-requires-clause-rows g c = λ n i.
     let ns = take c.gather-count.result c.gather-count.new.numbers in
     let ms = c.sort_numbers.new.numbers in
     let moved = subst (λ xs. IsPermutation xs ms) c.split_at_mut-numbers.ensures.front
-    c.sort_numbers.ensures.same in
+    c.sort_numbers.ensures.unchanged in
     linked-there old n (chain-linked old c.args.head ns c.gather-count.ensures.chain n
     (was-there old c.args.head ns ms c.gather-count.ensures.chain moved n i))
 
@@ -29,7 +29,7 @@ returns-clause-chain g c =
     let ns = take c.gather-count.result c.gather-count.new.numbers in
     let ms = c.sort_numbers.new.numbers in
     let moved = subst (λ xs. IsPermutation xs ms) c.split_at_mut-numbers.ensures.front
-    c.sort_numbers.ensures.same in
+    c.sort_numbers.ensures.unchanged in
     sorted-to c.args.self.now c.args.head ns ms c.gather-count.ensures.chain moved
     c.link_each.new.self c.link_each.result c.sort_numbers.ensures.order
     c.link_each.ensures.chain
@@ -39,7 +39,7 @@ returns-clause-others g c =
     let ns = take c.gather-count.result c.gather-count.new.numbers in
     let ms = c.sort_numbers.new.numbers in
     let moved = subst (λ xs. IsPermutation xs ms) c.split_at_mut-numbers.ensures.front
-    c.sort_numbers.ensures.same in
+    c.sort_numbers.ensures.unchanged in
     others-kept c.args.self.now c.args.head ns ms c.gather-count.ensures.chain moved
     c.link_each.new.self c.link_each.ensures.next c.link_each.ensures.before
     c.link_each.ensures.linked
@@ -49,7 +49,7 @@ returns-clause-linked g c =
     let ns = take c.gather-count.result c.gather-count.new.numbers in
     let ms = c.sort_numbers.new.numbers in
     let moved = subst (λ xs. IsPermutation xs ms) c.split_at_mut-numbers.ensures.front
-    c.sort_numbers.ensures.same in
+    c.sort_numbers.ensures.unchanged in
     linked-again c.args.self.now c.args.head ns ms c.gather-count.ensures.chain moved
     c.link_each.new.self c.link_each.result c.link_each.ensures.chain c.link_each.ensures.linked
 

@@ -5,7 +5,7 @@ use Rattle.pt_table.specs.declared.link.Link.{Link}
 use Rattle.pt_table.specs.Linked.{is_linked}
 use Rattle.std.proofs.Common.{None, sym}
 use Rattle.std.specs.Option.{option_and_then}
-use Rattle.pt_table.specs.Linked.{is_number, next_number, number_before}
+use Rattle.pt_table.specs.Linked.{is_this_number, next_number, number_before}
 use Rattle.pt_table.proofs.objects.Objects.take.Goals as goal
 
 pub set_own-requires : goal.set_own-requires
@@ -39,8 +39,8 @@ returns-clause-next g c = λ n.
     c.set_own.ensures.next n
     ∙ (ap (λ (l : Link). cond own l.next (next_number c.set_before.new.self n)) c.out.ensures
     ∙ ap (λ x. cond own None x) (c.set_before.ensures.next n ∙ c.set_next.ensures.next n
-    ∙ (ap (λ x. cond (is_number x n) link.next (next_number old n)) (sym before)
-    ∙ ap (λ x. cond (is_number (number_before old c.args.number) n) x (next_number old n)) (sym
+    ∙ (ap (λ x. cond (is_this_number x n) link.next (next_number old n)) (sym before)
+    ∙ ap (λ x. cond (is_this_number (number_before old c.args.number) n) x (next_number old n)) (sym
     next))))
 
 pub returns-clause-before : goal.returns-clause-before
@@ -52,10 +52,11 @@ returns-clause-before g c = λ n.
     let before = ap (option_and_then (λ (l : Link). l.before)) c.link_near-link.ensures in
     c.set_own.ensures.before n
     ∙ (ap (λ (l : Link). cond own l.before (number_before c.set_before.new.self n)) c.out.ensures
-    ∙ ap (λ x. cond own None x) (c.set_before.ensures.before n ∙ ap (λ x. cond (is_number link.next
+    ∙ ap (λ x. cond own None x) (c.set_before.ensures.before n
+    ∙ ap (λ x. cond (is_this_number link.next
     n) link.before x) (c.set_next.ensures.before n)
-    ∙ (ap (λ x. cond (is_number x n) link.before (number_before old n)) (sym next)
-    ∙ ap (λ x. cond (is_number (next_number old c.args.number) n) x (number_before old n)) (sym
+    ∙ (ap (λ x. cond (is_this_number x n) link.before (number_before old n)) (sym next)
+    ∙ ap (λ x. cond (is_this_number (next_number old c.args.number) n) x (number_before old n)) (sym
     before))))
 
 pub set_before-requires : goal.set_before-requires

@@ -1,6 +1,6 @@
 use Rattle.std.proofs.Common.{◌∙◌, Some, None, cond, sym, ap, subst}
 use Rattle.std.proofs.lemmas.Bool.{eq-eqb}
-use Rattle.pt_table.specs.Linked.{is_linked, next_number, number_before, but_number, IsChain}
+use Rattle.pt_table.specs.Linked.{is_linked, next_number, number_before, but_number, IsRowChain}
 use Rattle.pt_table.specs.Linked.{IsOneOf}
 use Rattle.pt_table.proofs.Lookups.{none_some}
 use Rattle.pt_table.proofs.Links.{linked-there}
@@ -38,7 +38,7 @@ returns-then-head-number-clause-chain g c = λ numbers l.
     let listed = subst (λ ns. IsOneOf ns c.args.number)
     (same-list (next_number old) (number_before old) (is_linked old) None (Some c.args.head)
     c.requires.0 numbers c.requires.1 l) c.requires.2 in
-    subst (λ h. IsChain new h (but_number numbers c.args.number))
+    subst (λ h. IsRowChain new h (but_number numbers c.args.number))
     (ap (λ b. cond b (next_number old c.args.number) (Some c.args.head))
     (eq-eqb c.args.head c.args.number c.if-head-number.true) ∙ sym c.take-after.ensures.result)
     (take-from (next_number old) (number_before old) (is_linked old) (next_number new)
@@ -64,7 +64,7 @@ returns-else-head-number-clause-chain g c = λ numbers l.
     let listed = subst (λ ns. IsOneOf ns c.args.number)
     (same-list (next_number old) (number_before old) (is_linked old) None (Some c.args.head)
     c.requires.0 numbers c.requires.1 l) c.requires.2 in
-    subst (λ h. IsChain new h (but_number numbers c.args.number))
+    subst (λ h. IsRowChain new h (but_number numbers c.args.number))
     (ap (λ b. cond b (next_number old c.args.number) (Some c.args.head))
     (differs c.args.head c.args.number c.if-head-number.false))
     (take-from (next_number old) (number_before old) (is_linked old) (next_number new)

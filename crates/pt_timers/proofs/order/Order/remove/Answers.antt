@@ -1,5 +1,5 @@
 use Rattle.std.specs.BinaryHeap.{heap_items, IsHeap}
-use Rattle.pt_timers.proofs.StaleLemmas.{less-live, one-out}
+use Rattle.pt_timers.proofs.StaleLemmas.{less-live_keys, one-out}
 use Rattle.std.proofs.Common.{sym, ◌∙◌}
 use Rattle.pt_timers.specs.Deadlines.{key_cmp, ComeBefore}
 use Rattle.pt_timers.proofs.OrderLemmas.{found-first}
@@ -12,14 +12,14 @@ returns g c =
     let m = c.if-is_key.self-inside in
     elim c.if-is_key.branch [
       | then-is_key w ↦
-          less-live (heap_items o.keys) (heap_items o.canceled) c.args.self.now c.self.view_is
+          less-live_keys (heap_items o.keys) (heap_items o.canceled) c.args.self.now c.self.view_is
           c.args.key (heap_items m.keys) (heap_items m.canceled) (heap_items c.settle.new.keys)
           (heap_items c.settle.new.canceled) c.settle.ensures.live
           (rw w.self-inside-is
           (one-out (heap_items o.keys) (heap_items w.pop_all.new.keys) (heap_items o.canceled)
           c.args.key w.pop_all.ensures.left))
       | else-is_key w ↦
-          less-live (heap_items o.keys) (heap_items o.canceled) c.args.self.now c.self.view_is
+          less-live_keys (heap_items o.keys) (heap_items o.canceled) c.args.self.now c.self.view_is
           c.args.key (heap_items m.keys) (heap_items m.canceled) (heap_items c.settle.new.keys)
           (heap_items c.settle.new.canceled) c.settle.ensures.live
           (rw w.self-inside-is w.cancel.ensures.live)
@@ -58,6 +58,6 @@ invariant_of-self g c =
     record {
       heap = c.settle.ensures.heap;
       canceled_heap = c.settle.ensures.canceled;
-      apart = c.settle.ensures.apart;
+      live_first = c.settle.ensures.disjoint;
       before = λ q h. before q (c.settle.ensures.fewer q h);
     }

@@ -1,5 +1,0 @@
-use Rattle.pt_grammar.proofs.StartLemmas.{may_stand_at}
-use Rattle.pt_grammar.proofs.client.may_stand.Goals as goal
-
-pub returns : goal.returns
-returns c = may_stand_at c.args.byte c.ranges.byte.fits

@@ -1,4 +1,0 @@
-use Rattle.pt_machine.proofs.body.Body.answer_since.Goals as goal
-
-pub answer_since-requires : goal.answer_since-requires
-answer_since-requires g c = rw c.self.view_is c.requires

@@ -1,7 +1,0 @@
-use Rattle.pt_machine.proofs.body.Body.refusal.Goals as goal
-
-pub refusal-requires : goal.refusal-requires
-refusal-requires g c = rw c.self.view_is c.requires
-
-pub returns : goal.returns
-returns g c = rw (← c.self.view_is) c.refusal.ensures

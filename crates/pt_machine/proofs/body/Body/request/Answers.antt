@@ -1,4 +1,0 @@
-use Rattle.pt_machine.proofs.body.Body.request.Goals as goal
-
-pub request-requires : goal.request-requires
-request-requires g c = rw c.self.view_is c.requires.read

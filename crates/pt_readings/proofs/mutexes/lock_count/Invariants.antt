@@ -1,0 +1,10 @@
+use Rattle.std.proofs.Common.{◌≡◌, ◌≤◌, take}
+use Rattle.pt_model.specs.Histories.{history}
+use Rattle.pt_model.specs.Mutexes.{lock_count}
+use Rattle.pt_readings.proofs.mutexes.lock_count.Given as goal
+
+abbrev pub invariant-loop-i : goal.invariant-loop-i
+invariant-loop-i l = record {
+  value : l.count ≡ lock_count (history (take l.i l.entries)) l.m l.c;
+  small : l.count ≤ l.i;
+}

@@ -1,0 +1,18 @@
+use Rattle.std.proofs.Common.{Some, None}
+use Rattle.pt_records.proofs.CallerWrites.{writes-by}
+use Rattle.pt_records.proofs.RowKinds.{no-client}
+use Rattle.pt_records.proofs.calls.open_waiting_call.Goals as goal
+
+pub returns-in-Some : goal.returns-in-Some
+returns-in-Some g c =
+    rw (← c.c.view_is)
+    (writes-by (λ v. record v {
+      «open» = Some c.args.open;
+      latest = Some c.args.place;
+      answer = None;
+    }) c.args.clients.now c.c.inside.0 c.in-Some.row.now c.in-Some.ensures.value)
+
+pub returns-in_default : goal.returns-in_default
+returns-in_default g c = λ v e.
+    absurd (no-client c.args.clients.now c.c.inside.0 c.args.c c.c.view_is
+    c.in_default.ensures.value v e)

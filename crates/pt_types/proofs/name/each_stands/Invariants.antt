@@ -1,7 +1,0 @@
-use Rattle.std.proofs.Common.{◌≡◌, true, take}
-use Rattle.std.specs.List.{list_all}
-use Rattle.pt_types.specs.Names.{is_name_byte}
-use Rattle.pt_types.proofs.name.each_stands.Given as goal
-
-abbrev pub invariant-loop-byte : goal.invariant-loop-byte
-invariant-loop-byte l = list_all is_name_byte (take l.byte-index l.bytes) ≡ true
