@@ -1,0 +1,1 @@
+int flock(int a,int b){return 0;}
