@@ -24,10 +24,10 @@ const PERIOD: u64 = 64;
 ///
 /// A thread that waits reads the count, then looks for what it waits for, and then sleeps, unless
 /// the count has changed meanwhile. Whoever brings what it waits for notifies afterwards. So no
-/// wake-up is lost, and ringing needs no lock.
+/// wake-up is lost, and notifying needs no lock.
 ///
 /// A sleeper may be warned that a notification is likely to come soon. It wakes and polls the count
-/// for a while. If the ring comes, it finds the sleeper awake, which saves the time of a wake-up.
+/// for a while. If it comes, it finds the sleeper awake, which saves the time of a wake-up.
 pub struct EventCount {
     epoch: AtomicU64,
     sleepers: AtomicU64,
@@ -113,7 +113,7 @@ impl EventCount {
     }
 
     /// Sleeps until it is notified, unless it was notified since its count was `epoch`. It may
-    /// return although nobody rang.
+    /// return although nobody notified.
     pub fn sleep<R: Wait>(&self, rt: &R, epoch: u64) {
         let early_wakes = self.early_wakes();
         self.sleepers.fetch_add(1, Ordering::SeqCst);

@@ -23,7 +23,8 @@ impl<A: Allocator + Copy> History<A> {
     ) -> bool
         requires { 0 < self.old.room }
         ensures { self.new
-            ≡ if result then stored_with (CallEntry client call.now outcome) self.old else self.old }
+            ≡ if result then stored_with
+            (CallEntry client call.now outcome) self.old else self.old }
     {
         let interned = self.records.interned_name(self.base, client, call, outcome);
         let Some(compact) = interned else {
@@ -44,7 +45,8 @@ impl<A: Allocator + Copy> History<A> {
     ) -> bool
         requires { 0 < self.old.room }
         ensures { self.new
-            ≡ if result then stored_with (CallEntry client call.now outcome) self.old else self.old }
+            ≡ if result then stored_with
+            (CallEntry client call.now outcome) self.old else self.old }
     {
         let interned = self.records.interned_init(self.base, client, call, outcome);
         let Some(compact) = interned else {
@@ -66,7 +68,8 @@ impl<A: Allocator + Copy> History<A> {
     ) -> bool
         requires { 0 < self.old.room }
         ensures { self.new
-            ≡ if result then stored_with (CallEntry client call.now outcome) self.old else self.old }
+            ≡ if result then stored_with
+            (CallEntry client call.now outcome) self.old else self.old }
     {
         let interned = self.records.interned_wait(self.base, client, call, outcome);
         let Some(compact) = interned else {
@@ -82,7 +85,8 @@ impl<A: Allocator + Copy> History<A> {
     fn push_timed(&mut self, client: ClientId, call: &Call, outcome: Option<Outcome>) -> bool
         requires { 0 < self.old.room }
         ensures { self.new
-            ≡ if result then stored_with (CallEntry client call.now outcome) self.old else self.old }
+            ≡ if result then stored_with
+            (CallEntry client call.now outcome) self.old else self.old }
     {
         let stored = self
             .records

@@ -22,9 +22,11 @@ ghost use Rattle.pt_legal.specs.Sealing.{IsSealed, seal_refusal};
 ghost use Rattle.pt_legal.specs.Replies.{reply_view};
 ghost use Rattle.pt_hub.specs.AnsweringCores.{ChangesAccount, IsRefusedAs, hub_core, account_of};
 ghost use Rattle.pt_hub.specs.AnsweringCores.{account_after_call, account_after_take};
-ghost use Rattle.pt_hub.specs.AnsweringCores.{new_account, is_client_blocked, call_refusal, next_answer};
+ghost use Rattle.pt_hub.specs.AnsweringCores.{new_account, is_client_blocked, call_refusal};
+ghost use Rattle.pt_hub.specs.AnsweringCores.{next_answer};
 ghost use Rattle.pt_hub.specs.AnsweringCores.{account_for_event};
-ghost use Rattle.pt_hub.specs.AnsweringCores.{accounts_for_event, accounts_after_seal, IsOwedTheRest};
+ghost use Rattle.pt_hub.specs.AnsweringCores.{accounts_for_event, accounts_after_seal};
+ghost use Rattle.pt_hub.specs.AnsweringCores.{IsOwedTheRest};
 ghost use Rattle.pt_hub.specs.AnsweringCores.{IsTakenButOne};
 ghost use Rattle.pt_hub.specs.AnsweringCores.{call_of_event, seen_at, GrowsCells, Meets};
 ghost use Rattle.pt_cells.specs.Cells.{AreCells, Extends};
@@ -79,8 +81,8 @@ impl<C: LegalHistory, A: Allocator + Copy> Model for AnsweringCore<C, A> {
 }
 
 impl<C: LegalHistory, A: Allocator + Copy> AnsweringCore<C, A> {
-    /// Creates an answering core over an empty core, so without accounts. The cells of its entries are made in
-    /// `heap`. Without one, no cells are made, and nothing is seen.
+    /// Creates an answering core over an empty core, so without accounts. The cells of its entries
+    /// are made in `heap`. Without one, no cells are made, and nothing is seen.
     pub fn new(core: C, alloc: A, heap: Option<Global>) -> AnsweringCore<C, A>
         requires { IsEmpty (core_state (C.seen core)) }
         ensures { (result.core ≡ record { core = C.seen core; cells = [] })

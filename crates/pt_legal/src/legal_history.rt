@@ -63,7 +63,8 @@ pub trait LegalHistory: Drop {
     /// [profile]
     fn answer_since(&self, place: u64, index: usize) -> Option<Reply>
         ensures { option_map reply_view result ≡ slice_get
-            (answers_since (core_state (seen self.now)).start place (seen self.now).entries) index };
+            (answers_since (core_state (seen self.now)).start place
+            (seen self.now).entries) index };
 
     /// Returns the number of answers that the entries before a place give.
     fn answers_before(&self, place: u64) -> usize

@@ -4,7 +4,8 @@ use Rattle.std.specs.Prelude.{List, Option, Some, None, MatchOption, ifâ—Œthenâ—
 use Rattle.std.specs.List.{filter}
 use Rattle.pt_types.specs.declared.time.Clock.{Clock}
 use Rattle.pt_types.specs.Times.{Timespec, has_invalid_deadline}
-use Rattle.pt_types.specs.Operations.{Operation, Acquires, CondWaits, Broadcasts, Signals, operation}
+use Rattle.pt_types.specs.Operations.{Operation, Acquires, CondWaits, Broadcasts, Signals}
+use Rattle.pt_types.specs.Operations.{operation}
 use Rattle.pt_types.specs.Operations.{deadline_of}
 use Rattle.pt_timers.specs.Deadlines.{deadline_at}
 use Rattle.pt_types.specs.Limits.{nanoseconds_per_second}

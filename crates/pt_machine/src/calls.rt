@@ -3,7 +3,8 @@
 ghost use Rattle.pt_state.specs.Requests.{IsRequest};
 ghost use Rattle.pt_types.specs.OperationViews.{operation_view};
 ghost use Rattle.std.specs.Prelude.{None, Some, ◌≡◌, false, unwrap_or};
-ghost use Rattle.pt_types.specs.Operations.{Acquires, BarrierWaits, CondWaits, Broadcasts, Ends, Inits};
+ghost use Rattle.pt_types.specs.Operations.{Acquires, BarrierWaits, CondWaits, Broadcasts, Ends};
+ghost use Rattle.pt_types.specs.Operations.{Inits};
 ghost use Rattle.pt_types.specs.Operations.{Restores, Rwunlocks, Signals, Unlocks, operation};
 ghost use Rattle.pt_types.specs.declared.operations.LockKind.TheVariants.{ReadLock, WriteLock};
 ghost use Rattle.pt_model.specs.declared.entry.Entry.TheVariants as entry;
@@ -161,7 +162,8 @@ impl<Q: WaitList, A: Allocator + Copy> Machine<Q, A> {
         requires tables { AreTables self.now }
         requires request { IsRequest (history_of self.now)
             (operation_view operation.now) request.now }
-        ensures { result ≡ operation_verdict (history_of self.now) c (operation_view operation.now) }
+        ensures { result ≡ operation_verdict (history_of self.now) c
+            (operation_view operation.now) }
     {
         let object = request.object;
         match operation {

@@ -250,7 +250,8 @@ impl<Q: WaitList, A: Allocator + Copy> Machine<Q, A> {
         requires tables { AreTables self.now }
         requires object { request.now.object ≡ find_object (history_of self.now) n.now CondClass }
         requires mutex { request.now.mutex ≡ find_object (history_of self.now) m.now MutexClass }
-        ensures { result ≡ operation_verdict (history_of self.now) c (CondWaits n.now m.now deadline) }
+        ensures { result ≡ operation_verdict (history_of self.now) c
+            (CondWaits n.now m.now deadline) }
     {
         let Some(q) = request.object else {
             return Verdict::Reply(Outcome::Einval);

@@ -54,7 +54,8 @@ impl<Q: WaitList, A: Allocator + Copy> Machine<Q, A> {
     fn verdict_to_read(&self, c: ClientId, n: &Name, how: &How, object: Option<ObjectId>) -> Verdict
         requires tables { AreTables self.now }
         requires found { object ≡ find_object (history_of self.now) n.now RwlockClass }
-        ensures { result ≡ operation_verdict (history_of self.now) c (Acquires n.now ReadLock how.now) }
+        ensures { result ≡ operation_verdict (history_of self.now) c
+            (Acquires n.now ReadLock how.now) }
     {
         match object {
             Some(r) => {
@@ -77,7 +78,8 @@ impl<Q: WaitList, A: Allocator + Copy> Machine<Q, A> {
     ) -> Verdict
         requires tables { AreTables self.now }
         requires found { object ≡ find_object (history_of self.now) n.now RwlockClass }
-        ensures { result ≡ operation_verdict (history_of self.now) c (Acquires n.now ReadLock how.now) }
+        ensures { result ≡ operation_verdict (history_of self.now) c
+            (Acquires n.now ReadLock how.now) }
     {
         self.verdict_to_read(c, n, how, object)
     }
@@ -93,7 +95,8 @@ impl<Q: WaitList, A: Allocator + Copy> Machine<Q, A> {
     ) -> Verdict
         requires tables { AreTables self.now }
         requires found { object ≡ find_object (history_of self.now) n.now RwlockClass }
-        ensures { result ≡ operation_verdict (history_of self.now) c (Acquires n.now ReadLock Plain) }
+        ensures { result ≡ operation_verdict (history_of self.now) c
+            (Acquires n.now ReadLock Plain) }
     {
         self.verdict_to_read(c, n, &How::Plain, object)
     }

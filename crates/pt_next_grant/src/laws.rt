@@ -1,7 +1,8 @@
 //! The laws of what entries touch. Each function's contract is a law of all histories that can come
 //! about; its body is empty.
 
-ghost use Rattle.pt_next_grant.specs.TouchLaws.{AreTouched, BeginsUntouched, Candidates, HasJustCome};
+ghost use Rattle.pt_next_grant.specs.TouchLaws.{AreTouched, BeginsUntouched, Candidates};
+ghost use Rattle.pt_next_grant.specs.TouchLaws.{HasJustCome};
 ghost use Rattle.pt_next_grant.specs.TouchLaws.{RestsUntouched, ServesTouched, Touches};
 
 /// Touched: a call that may be served after an entry waits at the object that the entry touches, or

@@ -52,7 +52,8 @@ pub fn is_later_at_barrier(entries: &[Entry], b: ObjectId, j: u64, i: u64) -> bo
 /// Returns true if an open call that came after place `j` waits at the barrier.
 #[cycle(answers)]
 pub fn has_later(entries: &[Entry], b: ObjectId, j: u64) -> bool
-    ensures { result ≡ list_any (λ w. nat_lt j w.place) (at_barrier b (open_calls (history entries.now))) }
+    ensures { result ≡ list_any (λ w. nat_lt j w.place) (at_barrier b (open_calls
+        (history entries.now))) }
 {
     for i in 0..entries.len() {
         if is_later_at_barrier(entries, b, j, i as u64) {
@@ -85,7 +86,8 @@ pub fn answer_in_trip(
     j: u64,
 ) -> Option<Outcome>
     requires { before ≡ outcome (history entries.now) j }
-    ensures { result ≡ outcome_in (trip_replies (at_barrier b (open_calls (history entries.now)))) j }
+    ensures { result ≡ outcome_in (trip_replies (at_barrier b (open_calls
+        (history entries.now)))) j }
 {
     if before.is_some() || !is_living_at_barrier(entries, b, j) {
         return None;

@@ -104,7 +104,8 @@ pub fn is_first_waiting(entries: &[Entry], n: &Name, before: Option<Move>, j: u6
 #[tactic(auto, using(crate::proofs::Waits::waiting_is))]
 pub fn cause_by(entries: &[Entry], entry: &Entry, before: Option<Move>, j: u64) -> Option<Cause>
     requires { before ≡ wait_move (history entries.now) j }
-    ensures { result ≡ cause_by (history entries.now) (wait_move (history entries.now)) entry.now j }
+    ensures { result ≡ cause_by (history entries.now) (wait_move
+        (history entries.now)) entry.now j }
 {
     match entry {
         Entry::Expire(i) if *i == j && is_wait_at(entries, j) => Some(Cause::Expired),

@@ -11,7 +11,8 @@ use Rattle.pt_types.specs.declared.outcome.Outcome.TheVariants.{Einval}
 use Rattle.pt_types.specs.declared.outcome.Verdict.{Verdict}
 use Rattle.pt_types.specs.declared.outcome.Verdict.TheVariants.{Reply, Stands}
 use Rattle.pt_types.specs.Operations.{Operation, Inits, Ends, Acquires, Unlocks, Restores}
-use Rattle.pt_types.specs.Operations.{Rwunlocks, CondWaits, Signals, Broadcasts, BarrierWaits, operation}
+use Rattle.pt_types.specs.Operations.{Rwunlocks, CondWaits, Signals, Broadcasts, BarrierWaits}
+use Rattle.pt_types.specs.Operations.{operation}
 use Rattle.pt_types.specs.Times.{Timespec}
 use Rattle.pt_model.specs.Histories.{History}
 use Rattle.pt_model.specs.Objects.{find_object, object_named, object_count}
@@ -20,7 +21,8 @@ use Rattle.pt_model.specs.Verdicts.{verdict}
 use Rattle.pt_readable.specs.Reading.{blocked_at, bound_at, busy_at, mutex_named, rwlock_named}
 use Rattle.pt_rules.specs.declared.call.CallRule.{CallRule}
 use Rattle.pt_rules.specs.declared.call.CallRule.TheVariants as call
-use Rattle.pt_rules.specs.CondRules.{outcome_by_wait_rule, outcome_by_wake_rule, wait_rule, wake_rule}
+use Rattle.pt_rules.specs.CondRules.{outcome_by_wait_rule, outcome_by_wake_rule, wait_rule}
+use Rattle.pt_rules.specs.CondRules.{wake_rule}
 use Rattle.pt_rules.specs.MutexRules.{consistent_rule, lock_rule, unlock_rule}
 use Rattle.pt_rules.specs.MutexRules.{outcome_by_consistent_rule, outcome_by_lock_rule}
 use Rattle.pt_rules.specs.MutexRules.{outcome_by_unlock_rule}

@@ -5,7 +5,8 @@ ghost use Rattle.pt_rules.specs.CallRules.{acquire_rule, call_rule};
 ghost use Rattle.pt_rules.specs.CallRules.{await_rule, missing_rule};
 ghost use Rattle.pt_rules.specs.CallRules.{operation_rule};
 ghost use Rattle.pt_rules.specs.CallRules.{wake_rule_on};
-ghost use Rattle.pt_types.specs.Operations.{BarrierWaits, CondWaits, Ends, Inits, Restores, Rwunlocks};
+ghost use Rattle.pt_types.specs.Operations.{BarrierWaits, CondWaits, Ends, Inits, Restores};
+ghost use Rattle.pt_types.specs.Operations.{Rwunlocks};
 ghost use Rattle.pt_types.specs.Operations.{Unlocks};
 
 use crate::cond::{WaitRule, WakeRule, wait_rule, wake_rule};

@@ -15,7 +15,8 @@ use Rattle.pt_engine.specs.declared.line_id.LineId.{LineId}
 use Rattle.pt_engine.specs.Scripts.{Script, empty_script, line_id, event_of_line, line_at}
 use Rattle.pt_engine.specs.Scripts.{number_of_who}
 use Rattle.pt_engine.specs.Scripts.{refusal_text}
-use Rattle.pt_engine.specs.LineAnswers.{AnswersLines, IsRefused, LacksMemory, IsAccepted, count_line}
+use Rattle.pt_engine.specs.LineAnswers.{AnswersLines, IsRefused, LacksMemory, IsAccepted}
+use Rattle.pt_engine.specs.LineAnswers.{count_line}
 use Rattle.pt_script.specs.Tellings.{answers}
 use Rattle.pt_script.specs.Ends.{BeginsScriptText}
 

@@ -1,7 +1,8 @@
 -- Requests: the objects that the names of a call refer to when the call comes.
 use Rattle.std.specs.Prelude.{ℕ, ◌≡◌, Option, None}
 use Rattle.pt_types.specs.Operations.{Operation, Inits, Ends, Acquires, Unlocks, Restores}
-use Rattle.pt_types.specs.Operations.{Rwunlocks, CondWaits, Signals, Broadcasts, BarrierWaits, class_needed}
+use Rattle.pt_types.specs.Operations.{Rwunlocks, CondWaits, Signals, Broadcasts, BarrierWaits}
+use Rattle.pt_types.specs.Operations.{class_needed}
 use Rattle.pt_types.specs.declared.operations.ObjectClass.TheVariants.{Mutex as MutexClass}
 use Rattle.pt_types.specs.declared.operations.ObjectClass.TheVariants.{Rwlock as RwlockClass}
 use Rattle.pt_types.specs.declared.operations.ObjectClass.TheVariants.{Cond as CondClass}

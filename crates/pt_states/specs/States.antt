@@ -122,8 +122,8 @@ object_words h clients n class.Rwlock ts =
 object_words h clients n class.Cond ts = cond_words ts
 object_words h clients n class.Barrier ts = barrier_words (unwrap_or (count_at h n) 0) ts
 
--- the row of the object of this class with this name and this number, if there is one. A trace reads
--- a line that begins with a space as a remark  [profile]
+-- the row of the object of this class with this name and this number, if there is one. A trace
+-- reads a line that begins with a space as a remark  [profile]
 abbrev pub state_by : History → List (List ℕ × ℕ) → List ℕ → ObjectClass → Option ℕ → List ℕ
 state_by h clients n class None = []
 state_by h clients n class (Some o) =
